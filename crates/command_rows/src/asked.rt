@@ -30,51 +30,92 @@ fn data_of(words: &str) -> CallData {
     }
 }
 
-// Appends the answers of the program of these instructions to the calls, a line each.
-fn push_answers(
-    alloc: Global,
-    said: &mut String,
-    name: &str,
-    code: &str,
-    asked: &[String],
-) -> Result<(), AllocError> {
-    match Program::read(alloc, bytes_of(alloc, code)?.as_slice()) {
-        Ok(program) => {
-            for words in asked {
-                let answer = run(&program, &data_of(words.as_str()));
-                said.push_str(format!(in alloc; "{name}: {words} -> {answer}\n")?.as_str())?;
-            }
-            Ok(())
+/// A text of `filter` that is followed line by line: the filter whose program is read, and the calls that each is asked.
+#[derive(Drop)]
+struct Asking<'a> {
+    asked: &'a [String],
+    /// The name of the filter; none before the first one.
+    name: String,
+    /// Its instructions in hex.
+    code: String,
+    /// The answers so far.
+    said: String,
+}
+
+impl<'a> Asking<'a> {
+    // No filter yet.
+    fn new(alloc: Global, asked: &'a [String]) -> Self {
+        Asking {
+            asked,
+            name: String::new(alloc),
+            code: String::new(alloc),
+            said: String::new(alloc),
         }
-        Err(_) => said.push_str(format!(in alloc; "{name} is no program\n")?.as_str()),
+    }
+
+    fn follow(&mut self, alloc: Global, text: &str) -> Result<(), AllocError> {
+        for line in text.lines() {
+            self.step(alloc, line)?;
+        }
+        Ok(())
+    }
+
+    // Follows a line: the head of a filter, the line that counts them, or an instruction.
+    fn step(&mut self, alloc: Global, line: &str) -> Result<(), AllocError> {
+        match line.strip_prefix("filter") {
+            Some(rest) => self.begin(alloc, line, head_of(rest)),
+            None => {
+                self.code.push_str(line)?;
+                self.code.push(' ')
+            }
+        }
+    }
+
+    // Asks the filter that ends here, and begins the one of this name. A line without a name stays.
+    fn begin(&mut self, alloc: Global, line: &str, name: &str) -> Result<(), AllocError> {
+        self.end(alloc)?;
+        self.code.clear();
+        self.name.clear();
+        match name {
+            "" => push_line(&mut self.said, "", line),
+            name => self.name.push_str(name),
+        }
+    }
+
+    // Asks the filter, if there is one.
+    fn end(&mut self, alloc: Global) -> Result<(), AllocError> {
+        if self.name.is_empty() {
+            return Ok(());
+        }
+        match &program_of(alloc, self.code.as_str()) {
+            Some(program) => self.ask(alloc, program),
+            None => push_line(&mut self.said, self.name.as_str(), " is no program"),
+        }
+    }
+
+    // Asks a program about each call, a line each.
+    fn ask(&mut self, alloc: Global, program: &Program) -> Result<(), AllocError> {
+        let asked = self.asked;
+        for words in asked {
+            let answer = run(program, &data_of(words.as_str()));
+            let line = format!(in alloc; "{}: {words} -> {answer}\n", self.name)?;
+            self.said.push_str(line.as_str())?;
+        }
+        Ok(())
     }
 }
 
-/// The text of `filter` with what each filter answers to the calls in the place of its program.
+// The program of these instructions in hex. None if it is refused.
+fn program_of(alloc: Global, code: &str) -> Option<Program> {
+    let bytes = bytes_of(alloc, code).ok()?;
+    Program::read(alloc, bytes.as_slice()).ok()
+}
+
+/// Returns the text of `filter` with the answers of each filter to the calls in the place of its program.
 pub fn answers(alloc: Global, text: &str, asked: &[String]) -> Result<String, AllocError> {
-    let mut said = String::new(alloc);
-    let mut name = String::new(alloc);
-    let mut code = String::new(alloc);
-    for line in text.lines() {
-        match line.strip_prefix("filter") {
-            None => {
-                code.push_str(line)?;
-                code.push(' ')?;
-            }
-            Some(rest) => {
-                if !name.is_empty() {
-                    push_answers(alloc, &mut said, name.as_str(), code.as_str(), asked)?;
-                }
-                code.clear();
-                name.clear();
-                name.push_str(head_of(rest))?;
-                if name.is_empty() {
-                    push_line(&mut said, "", line)?;
-                }
-            }
-        }
-    }
-    Ok(said)
+    let mut asking = Asking::new(alloc, asked);
+    asking.follow(alloc, text)?;
+    asking.said.clone()
 }
 
 // The name of the filter that begins with this line; none for the line that counts them.

@@ -1,97 +1,113 @@
 //! Replays the lists of calls below the open questions of a report.
 use crate::rows::Rows;
-use crate::runs::run_over;
+use crate::runs::{Printed, run_over};
 use crate::sought::push_line;
-use host_io::are_files;
 use std::alloc::{AllocError, Global};
 
 /// The path of the script of a list.
 const SCRIPT: &str = "list";
 
+/// A report that is followed line by line: the last question with its list, and the lists before it.
+#[derive(Drop)]
+struct Lists<'a> {
+    rows: &'a Rows,
+    unit: &'a str,
+    question: String,
+    script: String,
+    /// How many lists are done.
+    done: u64,
+    /// The replays of the others, below their questions.
+    others: String,
+}
+
+impl<'a> Lists<'a> {
+    // No question yet.
+    fn new(alloc: Global, rows: &'a Rows) -> Self {
+        let unit = match rows.words.first() {
+            Some(word) => word.as_str(),
+            None => "",
+        };
+        Lists {
+            rows,
+            unit,
+            question: String::new(alloc),
+            script: String::new(alloc),
+            done: 0,
+            others: String::new(alloc),
+        }
+    }
+
+    fn follow(&mut self, alloc: Global, report: &str) -> Result<(), AllocError> {
+        for line in report.lines() {
+            self.step(alloc, line)?;
+        }
+        Ok(())
+    }
+
+    // Follows a line: a call of the list, or the next question.
+    fn step(&mut self, alloc: Global, line: &str) -> Result<(), AllocError> {
+        match line.strip_prefix("  ") {
+            Some(call) => push_line(&mut self.script, "", call),
+            None => {
+                self.end_list(alloc)?;
+                self.script.clear();
+                self.question.clear();
+                self.question.push_str(line)
+            }
+        }
+    }
+
+    // Replays the list of the question, if it has calls.
+    fn end_list(&mut self, alloc: Global) -> Result<(), AllocError> {
+        if self.script.is_empty() {
+            return Ok(());
+        }
+        let replay = self.replayed(alloc)?;
+        self.count(replay.text.as_str())
+    }
+
+    fn replayed(&self, alloc: Global) -> Result<Printed, AllocError> {
+        let script = self.script.as_str();
+        let files = self.rows.files.with(alloc, SCRIPT, script)?;
+        let words = ["replay", self.unit, SCRIPT];
+        run_over(alloc, files, &words, &self.rows.faults)
+    }
+
+    // Counts the list if each of its calls is done, and else keeps the replay.
+    fn count(&mut self, replay: &str) -> Result<(), AllocError> {
+        if are_done(replay, self.script.as_str().lines().count()) {
+            self.done = self.done.saturating_add(1);
+            return Ok(());
+        }
+        push_line(&mut self.others, "", self.question.as_str())?;
+        self.others.push_str(replay)
+    }
+
+    // Returns how many lists are done, and the replays of the others.
+    fn text(&self, alloc: Global) -> Result<String, AllocError> {
+        let (unit, done) = (self.unit, self.done);
+        match self.others.as_str().trim_end() {
+            "" => format!(in alloc; "circle {unit}: {done} lists done"),
+            others => format!(in alloc; "circle {unit}: {done} lists done, but not\n{others}"),
+        }
+    }
+}
+
 // Returns whether a replay has so many calls, and each of them is done.
 fn are_done(replay: &str, count: usize) -> bool {
-    replay.lines().filter(|line| line.contains(" -> ")).count() == count
-        && replay
-            .lines()
-            .filter(|line| line.contains(" -> ok "))
-            .count()
-            == count
+    count_with(replay, " -> ") == count && count_with(replay, " -> ok ") == count
 }
 
-// Replays the calls of a list, whose lines are these.
-fn replayed(alloc: Global, rows: &Rows, unit: &str, script: &str) -> Result<String, AllocError> {
-    let mut files = rows.files.copied(alloc)?;
-    files.push((
-        String::from_str(alloc, SCRIPT)?,
-        script.as_bytes().to_vec(alloc)?,
-    ))?;
-    let words = ["replay", unit, SCRIPT];
-    Ok(run_over(alloc, files, &words, &rows.faults)?.text)
-}
-
-// Replays the list of a question, if it has calls: it is counted where each of them is done, and told where not.
-fn push_list(
-    alloc: Global,
-    rows: &Rows,
-    unit: &str,
-    question: &str,
-    script: &str,
-    said: &mut String,
-    done: &mut Vec<u8>,
-) -> Result<(), AllocError> {
-    if script.is_empty() {
-        return Ok(());
-    }
-    let replay = replayed(alloc, rows, unit, script)?;
-    if are_done(replay.as_str(), script.lines().count()) {
-        return Ok(done.push(1)?);
-    }
-    push_line(said, "", question)?;
-    said.push_str(replay.as_str())
+fn count_with(replay: &str, part: &str) -> usize {
+    replay.lines().filter(|line| line.contains(part)).count()
 }
 
 /// Returns the report on the unit of a row, list by list: which of them is not done when it is replayed, and how many
 /// are.
 pub fn circle(alloc: Global, rows: &Rows) -> Result<String, AllocError> {
-    let unit = match rows.words.first() {
-        Some(word) => word.as_str(),
-        None => "",
-    };
-    let mut said = String::new(alloc);
-    let mut done = Vec::new(alloc);
-    let files = rows.files.copied(alloc)?;
-    if !are_files(files.as_slice()) || rows.faults.take == 0 {
-        return String::from_str(alloc, "no row");
-    }
-    let words = ["judge", unit];
-    let report = run_over(alloc, files, &words, &rows.faults)?.text;
-    let mut question = String::new(alloc);
-    let mut script = String::new(alloc);
-    for line in report.as_str().lines() {
-        match line.strip_prefix("  ") {
-            Some(call) => {
-                push_line(&mut script, "", call)?;
-            }
-            None => {
-                push_list(
-                    alloc,
-                    rows,
-                    unit,
-                    question.as_str(),
-                    script.as_str(),
-                    &mut said,
-                    &mut done,
-                )?;
-                question.clear();
-                question.push_str(line)?;
-                script.clear();
-            }
-        }
-    }
-    let count = done.len();
-    let others = said.as_str().trim_end();
-    match others {
-        "" => format!(in alloc; "circle {unit}: {count} lists done"),
-        others => format!(in alloc; "circle {unit}: {count} lists done, but not\n{others}"),
-    }
+    let mut lists = Lists::new(alloc, rows);
+    let words = ["judge", lists.unit];
+    let report = run_over(alloc, rows.files.copied(alloc)?, &words, &rows.faults)?;
+    lists.follow(alloc, report.text.as_str())?;
+    lists.text(alloc)
 }

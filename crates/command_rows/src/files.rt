@@ -36,8 +36,20 @@ impl Files {
             } else {
                 whole
             };
-            files.push((file.0.clone()?, bytes.to_vec(alloc)?))?;
+            files.push(made(alloc, file.0.as_str(), bytes)?)?;
         }
+        Ok(files)
+    }
+
+    /// Copies the files, and adds one with this path and text.
+    pub fn with(
+        &self,
+        alloc: Global,
+        path: &str,
+        text: &str,
+    ) -> Result<Vec<(String, Vec<u8>)>, AllocError> {
+        let mut files = self.copied(alloc)?;
+        files.push(made(alloc, path, text.as_bytes())?)?;
         Ok(files)
     }
 
@@ -53,7 +65,8 @@ impl Files {
 
     /// Follows a line. Any line but these changes nothing:
     /// - `file PATH` begins an empty file, and `more PATH` continues an existing file.
-    /// - `|TEXT` adds a line to the newest file, `>TEXT` a text, `nul` a zero byte, and `many N` so many letters.
+    /// - `|TEXT` adds a line to the newest file, `>TEXT` a text, `many N TEXT` a text so many times, `nul` a zero byte, and
+    ///   `no-text` a byte that is no text.
     /// - `times N TEXT` adds so many lines, and replaces each `#` by the number of the line, from 1.
     /// - `comment N` and `blanks N` fill the file with `#` and with spaces until it has N bytes.
     /// - `files N PATH TEXT` makes so many files of one line, and replaces each `#` in their paths by the number of
@@ -61,8 +74,7 @@ impl Files {
     /// - `no-file PATH` removes a file, and `no-files FRONT` those whose paths begin so.
     pub fn follow(&mut self, alloc: Global, line: &str) -> Result<(), AllocError> {
         if let Some(text) = line.strip_prefix('|') {
-            self.add(text.as_bytes())?;
-            return self.add(b"\n");
+            return self.add_line(text);
         }
         if let Some(text) = line.strip_prefix('>') {
             return self.add(text.as_bytes());
@@ -70,6 +82,7 @@ impl Files {
         match line.split_once(' ') {
             Some((step, rest)) => self.follow_step(alloc, step, rest),
             None if line == "nul" => self.add(b"\0"),
+            None if line == "no-text" => self.add(b"\xff"),
             None => Ok(()),
         }
     }
@@ -78,7 +91,7 @@ impl Files {
         match step {
             "file" => self.begin(alloc, rest),
             "more" => self.go_on(rest),
-            "many" => self.add_letters(number(rest)),
+            "many" => self.add_many(rest),
             "times" => self.add_lines(alloc, rest),
             "comment" => self.fill(number(rest), b'#'),
             "blanks" => self.fill(number(rest), b' '),
@@ -98,9 +111,7 @@ impl Files {
     // A new file, which is empty, in the place of the one of this path.
     fn begin(&mut self, alloc: Global, path: &str) -> Result<(), AllocError> {
         self.remove(path);
-        self.list
-            .push((String::from_str(alloc, path)?, Vec::new(alloc)))?;
-        Ok(())
+        Ok(self.list.push(made(alloc, path, b"")?)?)
     }
 
     // Makes an existing file the newest, so that more lines extend it.
@@ -129,10 +140,17 @@ impl Files {
         }
     }
 
-    // So many letters.
-    fn add_letters(&mut self, count: u64) -> Result<(), AllocError> {
-        for _ in 0..count {
-            self.add(b"a")?;
+    fn add_line(&mut self, text: &str) -> Result<(), AllocError> {
+        self.add(text.as_bytes())?;
+        self.add(b"\n")
+    }
+
+    // A text so many times.
+    fn add_many(&mut self, rest: &str) -> Result<(), AllocError> {
+        if let Some((count, text)) = rest.split_once(' ') {
+            for _ in 0..number(count) {
+                self.add(text.as_bytes())?;
+            }
         }
         Ok(())
     }
@@ -149,8 +167,7 @@ impl Files {
     fn add_lines(&mut self, alloc: Global, rest: &str) -> Result<(), AllocError> {
         if let Some((count, text)) = rest.split_once(' ') {
             for at in 0..number(count) {
-                self.add(numbered(alloc, text, at + 1)?.as_bytes())?;
-                self.add(b"\n")?;
+                self.add_line(numbered(alloc, text, at + 1)?.as_str())?;
             }
         }
         Ok(())
@@ -162,8 +179,7 @@ impl Files {
             if let Some((path, text)) = rest.split_once(' ') {
                 for at in 0..number(count) {
                     self.begin(alloc, numbered(alloc, path, at + 1)?.as_str())?;
-                    self.add(text.as_bytes())?;
-                    self.add(b"\n")?;
+                    self.add_line(text)?;
                 }
             }
         }
@@ -187,15 +203,13 @@ fn fill_up(bytes: &mut Vec<u8>, count: u64, byte: u8) -> Result<(), AllocError> 
     Ok(())
 }
 
+// A file of these bytes.
+fn made(alloc: Global, path: &str, bytes: &[u8]) -> Result<(String, Vec<u8>), AllocError> {
+    Ok((String::from_str(alloc, path)?, bytes.to_vec(alloc)?))
+}
+
 // The text with a number in the place of each `#`.
 fn numbered(alloc: Global, text: &str, number: u64) -> Result<String, AllocError> {
-    let mut said = String::new(alloc);
     let shown = number.to_string(alloc)?;
-    for (at, piece) in text.split('#').enumerate() {
-        if at > 0 {
-            said.push_str(shown.as_str())?;
-        }
-        said.push_str(piece)?;
-    }
-    Ok(said)
+    text.replace(alloc, '#', shown.as_str())
 }

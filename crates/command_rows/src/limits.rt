@@ -67,12 +67,8 @@ impl Follow for Rows {
 
 // A run without faults.
 fn faultless(alloc: Global, files: &Files, words: &[&str]) -> Result<Printed, AllocError> {
-    run_over(
-        alloc,
-        files.copied(alloc)?,
-        words,
-        &Faults::none(alloc, TAKE),
-    )
+    let files = files.copied(alloc)?;
+    run_over(alloc, files, words, &Faults::none(alloc, TAKE))
 }
 
 // The status, and the text with a sign where it does not end with a line feed.
@@ -89,17 +85,25 @@ fn whole(alloc: Global, files: &Files, words: &[&str]) -> Result<String, AllocEr
 // The status, how many lines there are, and the last of them.
 fn last(alloc: Global, files: &Files, count: u64, words: &[&str]) -> Result<String, AllocError> {
     let printed = faultless(alloc, files, words)?;
-    let lines: Vec<&str> = printed.text.as_str().lines().collect(alloc)?;
-    let code = printed.code;
-    let mut text = format!(in alloc; "-> {code}, {} lines", lines.len())?;
-    let passed = (lines.len() as u64).saturating_sub(count);
-    for (at, line) in lines.iter().enumerate() {
+    let total = printed.text.as_str().lines().count() as u64;
+    let mut text = format!(in alloc; "-> {}, {total} lines", printed.code)?;
+    push_rest(
+        &mut text,
+        printed.text.as_str(),
+        total.saturating_sub(count),
+    )?;
+    Ok(text)
+}
+
+// Appends the lines after so many.
+fn push_rest(text: &mut String, printed: &str, passed: u64) -> Result<(), AllocError> {
+    for (at, line) in printed.lines().enumerate() {
         if at as u64 >= passed {
             text.push('\n')?;
             text.push_str(line)?;
         }
     }
-    Ok(text)
+    Ok(())
 }
 
 // Each of the first calls of the shelf fails in turn, or each of the first puts to a sink that takes so many bytes.
@@ -112,13 +116,25 @@ fn in_turn(
 ) -> Result<String, AllocError> {
     let whole = faultless(alloc, files, words)?;
     let mut spans = Spans::new(alloc);
-    for before in 0..count {
-        let faults = one_fault(alloc, take, before + 1)?;
-        let printed = run_over(alloc, files.copied(alloc)?, words, &faults)?;
-        let told = taken(alloc, &printed, whole.text.as_str(), before)?;
-        spans.add(alloc, before + 1, told.as_str())?;
+    for number in 1..=count {
+        let told = turn(alloc, files, take, number, words, whole.text.as_str())?;
+        spans.add(alloc, number, told.as_str())?;
     }
     spans.text(alloc)
+}
+
+// The status and how much of the whole text was taken, if the call of this number fails.
+fn turn(
+    alloc: Global,
+    files: &Files,
+    take: Option<u64>,
+    number: u64,
+    words: &[&str],
+    whole: &str,
+) -> Result<String, AllocError> {
+    let faults = one_fault(alloc, take, number)?;
+    let printed = run_over(alloc, files.copied(alloc)?, words, &faults)?;
+    taken(alloc, &printed, whole, number.saturating_sub(1))
 }
 
 // The put of this number fails, where it is said how many bytes the sink takes at once, and else the call of the shelf.
@@ -162,13 +178,24 @@ fn prefixes(
     words: &[&str],
 ) -> Result<String, AllocError> {
     let mut spans = Spans::new(alloc);
-    let length = files.length(path);
-    for count in 0..=length {
-        let cut = files.cut(alloc, path, count)?;
-        let printed = run_over(alloc, cut, words, &Faults::none(alloc, TAKE))?;
-        spans.add(alloc, count as u64, ended(alloc, &printed)?.as_str())?;
+    for count in 0..=files.length(path) {
+        let told = prefix(alloc, files, path, count, words)?;
+        spans.add(alloc, count as u64, told.as_str())?;
     }
     spans.text(alloc)
+}
+
+// The words over a prefix of a file.
+fn prefix(
+    alloc: Global,
+    files: &Files,
+    path: &str,
+    count: usize,
+    words: &[&str],
+) -> Result<String, AllocError> {
+    let cut = files.cut(alloc, path, count)?;
+    let printed = run_over(alloc, cut, words, &Faults::none(alloc, TAKE))?;
+    ended(alloc, &printed)
 }
 
 // The status and the line, or how many lines and the last.

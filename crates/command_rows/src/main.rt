@@ -6,7 +6,8 @@
 //! | Line | Step |
 //! |---|---|
 //! | `file PATH` | begins a file, which further rows keep |
-//! | `\|TEXT`, `>TEXT`, `nul`, `many N`, `times N TEXT` | adds a line, a text, a zero byte, so many letters, so many lines to it |
+//! | `\|TEXT`, `>TEXT`, `many N TEXT`, `times N TEXT` | adds a line, a text, a text so many times, so many lines to it |
+//! | `nul`, `no-text` | adds a zero byte, a byte that is no text |
 //! | `more PATH`, `no-file PATH` | continues a file, removes it |
 //! | `word WORD` | adds a word |
 //! | `take N` | sets how much the sink takes at once |

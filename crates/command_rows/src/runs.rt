@@ -38,6 +38,13 @@ pub struct Printed {
     pub text: String,
 }
 
+impl Printed {
+    fn new(alloc: Global, code: u8, bytes: &[u8]) -> Result<Self, AllocError> {
+        let text = said(alloc, str::from_utf8(bytes).unwrap_or("no text\n"))?;
+        Ok(Printed { code, text })
+    }
+}
+
 /// Runs these words over the files.
 pub fn run_over(
     alloc: Global,
@@ -45,15 +52,26 @@ pub fn run_over(
     words: &[&str],
     faults: &Faults,
 ) -> Result<Printed, AllocError> {
-    if !are_files(files.as_slice()) || faults.take == 0 {
-        let text = said(alloc, "no row\n")?;
-        return Ok(Printed { code: 0, text });
+    if !are_files(files.as_slice()) {
+        return Printed::new(alloc, 0, b"no row\n");
     }
-    let mut shelf = MemShelf::new(files, faults.reads.clone()?);
+    let failing = faults.reads.clone()?;
+    run_on(alloc, words, faults, &mut MemShelf::new(files, failing))
+}
+
+// Runs these words over a shelf.
+fn run_on(
+    alloc: Global,
+    words: &[&str],
+    faults: &Faults,
+    shelf: &mut MemShelf,
+) -> Result<Printed, AllocError> {
+    if faults.take == 0 {
+        return Printed::new(alloc, 0, b"no row\n");
+    }
     let mut sink = MemSink::new(alloc, faults.take, faults.puts.clone()?);
-    let code = run_words(alloc, words, &faults.wishes, &mut shelf, &mut sink)?;
-    let text = said(alloc, str::from_utf8(sink.taken()).unwrap_or("no text\n"))?;
-    Ok(Printed { code, text })
+    let code = run_words(alloc, words, &faults.wishes, shelf, &mut sink)?;
+    Printed::new(alloc, code, sink.taken())
 }
 
 // Returns whether some file can be executed by the verdicts.

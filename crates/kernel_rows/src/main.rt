@@ -1,44 +1,23 @@
-//! Runs rows over the modelled kernel: whole worlds, tables of many mounts, and pairs of sites that differ below a
-//! folder.
+//! Runs rows over tables of many mounts, and over pairs of sites that differ only below a folder.
 //!
-//! A line `part NAME` of the standard input begins the rows of a part, and prints nothing. A line that begins with
-//! `#` says what the next rows show, and is printed. The parts are these:
-//! - `worlds` has blocks of calls, each on a world of its own, all over the first tables that the lines hold.
-//! - `linux` has the same, and Linux reads the names of the calls.
-//! - `mounts` has tables of mounts.
-//! - `alike` has pairs of sites that differ below a folder alone.
+//! A line that begins with `#` says what the next rows show, and is printed. A line that begins with two spaces is held as
+//! a text. Each other line is a row of words, separated by bars, and is printed with its answer.
+//!
+//! | Row | Step |
+//! |---|---|
+//! | `mounts\|..` | changes a table of mounts, or asks it (`mounts`) |
+//! | `calls`, `site`, `other` | takes the held text as calls.txt, as site.toml, as more rows for the other site |
+//! | `pair\|..` | compares a service on both sites (`alike`) |
 #![tactic(auto)]
 
 mod alike;
 mod mounts;
-mod parts;
-mod replies;
-mod worlds;
+mod rows;
 
-use parts::Parts;
-use row_tools::follow_line;
+use row_tools::follow_lines;
+use rows::Rows;
 use std::io;
-use worlds::tables_of;
 
 fn main(rt: HostRuntime) -> io::Result<()> {
-    let lines = read_lines(&rt)?;
-    match &tables_of(rt.alloc(), &lines) {
-        Some(tables) => follow_all(&rt, &mut Parts::new(rt.alloc(), tables)?, &lines),
-        None => rt.println("no tables"),
-    }
-}
-
-fn read_lines(rt: &HostRuntime) -> io::Result<Vec<String>> {
-    let mut lines = Vec::new(rt.alloc());
-    for line in rt.lines(rt.alloc()) {
-        lines.push(line?)?;
-    }
-    Ok(lines)
-}
-
-fn follow_all(rt: &HostRuntime, parts: &mut Parts<'_>, lines: &[String]) -> io::Result<()> {
-    for line in lines {
-        follow_line(rt, parts, line.as_str())?;
-    }
-    Ok(())
+    follow_lines(&rt, &mut Rows::new(rt.alloc())?)
 }

@@ -1,53 +1,37 @@
-//! Rows over tables of many mounts.
+//! Changes a table of mounts, and asks it.
 //!
-//! Each row is a call with its words, separated by bars, and is printed with its answer.
+//! | Row | Step |
+//! |---|---|
+//! | `mounts\|new` | begins a table with the host alone |
+//! | `mounts\|push\|PLACE\|empty\|` | adds an empty mount at a place |
+//! | `mounts\|push by turns\|N\|ONE\|OTHER` | adds so many at two places in turn |
+//! | `mounts\|push numbered\|FRONT\|FIRST\|LAST` | adds one for each number, at the front with the number after it |
+//! | `mounts\|resolve\|PATH` | finds the mount that a path belongs to |
+//! | `mounts\|resolve rounds\|FRONT\|FIRST\|LAST\|N` | asks so many times if each such path belongs to the first mount |
 use abs_path::{AbsPath, PathError};
 use asked_service::{Flags, MountStep, MountTable, What};
-use row_tools::{Follow, Shown, number, said, words};
+use row_tools::{number, said};
 use std::alloc::{AllocError, Global};
-use std::io;
 
-/// A table of mounts.
-#[derive(Drop)]
-pub struct Rows {
-    table: MountTable,
-}
-
-impl Rows {
-    /// The host alone.
-    pub fn new(alloc: Global) -> Result<Self, AllocError> {
-        Ok(Rows {
-            table: MountTable::new(alloc)?,
-        })
-    }
-}
-
-impl Follow for Rows {
-    fn follow(&mut self, alloc: Global, row: &str) -> io::Result<Shown> {
-        let words = words(alloc, row)?;
-        let answer = answer(alloc, &mut self.table, words.as_slice())?;
-        Ok(Shown::Answer(answer))
-    }
-}
-
-fn answer(alloc: Global, table: &mut MountTable, row: &[&str]) -> Result<String, AllocError> {
+/// Returns the answer to a row on the table.
+pub fn answer(alloc: Global, table: &mut MountTable, row: &[&str]) -> Result<String, AllocError> {
     match row {
-        ["mounts", "new"] => {
+        ["new"] => {
             *table = MountTable::new(alloc)?;
             length(alloc, table)
         }
-        ["mounts", "push", place, "empty", ""] => push_by_turns(alloc, table, 1, place, place),
-        ["mounts", "push by turns", count, one, other] => {
+        ["push", place, "empty", ""] => push_by_turns(alloc, table, 1, place, place),
+        ["push by turns", count, one, other] => {
             push_by_turns(alloc, table, number(count), one, other)
         }
-        ["mounts", "push numbered", front, first, last] => {
+        ["push numbered", front, first, last] => {
             push_numbered(alloc, table, front, number(first), number(last))
         }
-        ["mounts", "resolve", path] => match &AbsPath::read(alloc, path) {
+        ["resolve", path] => match &AbsPath::read(alloc, path) {
             Ok(path) => table.resolve(path).to_string(alloc),
             Err(error) => error.to_string(alloc),
         },
-        ["mounts", "resolve rounds", front, first, last, rounds] => resolve_rounds(
+        ["resolve rounds", front, first, last, rounds] => resolve_rounds(
             alloc,
             table,
             &numbered_paths(alloc, front, number(first), number(last)),

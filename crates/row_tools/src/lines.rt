@@ -7,8 +7,6 @@ use std::io;
 pub enum Shown {
     /// Nothing.
     Nothing,
-    /// The line.
-    Line,
     /// The line, and the answer after it.
     Answer(String),
     /// This text in place of the line.
@@ -37,8 +35,8 @@ pub fn follow_lines<R: Input + Print + AllocGlobal, F: Follow>(
     Ok(())
 }
 
-/// Follows a line, and prints the answer. A line that begins with `#` is a comment: it is printed as it is.
-pub fn follow_line<R: Print + AllocGlobal, F: Follow>(
+// Follows a line, and prints the answer. A line that begins with `#` is a comment: it is printed as it is.
+fn follow_line<R: Print + AllocGlobal, F: Follow>(
     rt: &R,
     rows: &mut F,
     line: &str,
@@ -48,7 +46,6 @@ pub fn follow_line<R: Print + AllocGlobal, F: Follow>(
     }
     match rows.follow(rt.alloc(), line)? {
         Shown::Nothing => Ok(()),
-        Shown::Line => rt.println(line),
         Shown::Answer(answer) => println!(rt; "{line} -> {answer}"),
         Shown::Text(text) => rt.println(text.as_str()),
     }

@@ -47,15 +47,6 @@ fn escaped(letter: char) -> char {
     }
 }
 
-/// Returns a path of a slash and this number of letters `a`.
-pub fn long_path(alloc: Global, count: u64) -> Result<String, AllocError> {
-    let mut text = String::from_str(alloc, "/")?;
-    for _ in 0..count {
-        text.push('a')?;
-    }
-    Ok(text)
-}
-
 /// Returns the number of a word in decimal, or in hex after `0x`. It is 0 for any other word.
 pub fn number(word: &str) -> u64 {
     match word.strip_prefix("0x") {

@@ -9,9 +9,8 @@ ghost use Rattle.asked_service.specs.unit_launch.Launching.{IsLaunched};
 
 use crate::alike::asked::Asked;
 use crate::alike::elsewhere::is_blind_there;
-use crate::replies::reply_text;
 use asked_service::unit_launch::{UnitLaunch, launch_unit};
-use asked_service::{Call, Launched, MountStep, Settings, World, plan, settings};
+use asked_service::{Call, Launched, MountStep, Reply, Settings, World, plan, settings};
 use row_tools::said;
 use std::alloc::{AllocError, Global};
 
@@ -25,21 +24,26 @@ pub struct Trace {
 }
 
 impl Trace {
-    // One that has no replies, since there is no service.
-    fn stopped(launch: String, alloc: Global) -> Trace {
-        Trace {
-            launch,
-            is_blind: false,
-            replies: String::new(alloc),
-        }
+    /// Returns whether the service is blind, in a word.
+    pub fn sight(&self) -> &'static str {
+        if self.is_blind { "blind" } else { "sees" }
     }
+}
+
+// A trace that has no replies, since there is no service for this reason.
+fn stopped(alloc: Global, reason: Result<String, AllocError>) -> Result<Trace, AllocError> {
+    Ok(Trace {
+        launch: reason?,
+        is_blind: false,
+        replies: String::new(alloc),
+    })
 }
 
 /// Launches the unit on the site, and makes the calls.
 pub fn trace_of(alloc: Global, asked: &Asked<'_>) -> Result<Trace, AllocError> {
     match &settings(alloc, asked.unit, asked.calls, asked.site) {
         Ok(settings) => planned(alloc, asked, settings),
-        Err(error) => Ok(Trace::stopped(error.to_string(alloc)?, alloc)),
+        Err(error) => stopped(alloc, error.to_string(alloc)),
     }
 }
 
@@ -49,7 +53,7 @@ fn planned(alloc: Global, asked: &Asked<'_>, settings: &Settings) -> Result<Trac
 {
     match &plan(alloc, &settings.mentions, asked.site) {
         Ok(steps) => launched(alloc, asked, settings, steps.list()),
-        Err(error) => Ok(Trace::stopped(error.to_string(alloc)?, alloc)),
+        Err(error) => stopped(alloc, error.to_string(alloc)),
     }
 }
 
@@ -64,9 +68,9 @@ fn launched(
     requires plan { Plans (host_of asked.now.site.now) settings.now.mentions (Ok plan.now) }
     requires mounts { CanBeMounted (host_of asked.now.site.now) plan.now }
 {
-    match launch_unit(alloc, settings, plan, asked.calls, asked.site)? {
+    match &mut launch_unit(alloc, settings, plan, asked.calls, asked.site)? {
         UnitLaunch::Launched(service) => told(alloc, asked, settings, plan, service),
-        UnitLaunch::Refused(_) => Ok(Trace::stopped(said(alloc, "refused")?, alloc)),
+        UnitLaunch::Refused(_) => stopped(alloc, said(alloc, "refused")),
     }
 }
 
@@ -75,20 +79,18 @@ fn told(
     asked: &Asked<'_>,
     settings: &Settings,
     plan: &[MountStep],
-    service: Launched<'_>,
+    service: &mut Launched<'_>,
 ) -> Result<Trace, AllocError>
     requires accepted { refusal_of asked.now.unit.now asked.now.calls.now asked.now.site.now ≡ None }
     requires settings { AreSettings asked.now.unit.now asked.now.calls.now asked.now.site.now settings.now }
     requires plan { Plans (host_of asked.now.site.now) settings.now.mentions (Ok plan.now) }
     requires mounts { CanBeMounted (host_of asked.now.site.now) plan.now }
-    requires launched { IsLaunched asked.now.calls.now asked.now.site.now settings.now plan.now service }
+    requires launched { IsLaunched asked.now.calls.now asked.now.site.now settings.now plan.now service.old }
 {
-    let is_blind = is_blind_there(alloc, asked, settings, plan, &service)?;
-    let mut service = service;
-    let launch = format!(in alloc; "launched {}", service.steps)?;
+    let is_blind = is_blind_there(alloc, asked, settings, plan, service)?;
     let replies = replies(alloc, &mut service.world, asked.script)?;
     Ok(Trace {
-        launch,
+        launch: format!(in alloc; "launched {}", service.steps)?,
         is_blind,
         replies,
     })
@@ -101,8 +103,15 @@ fn replies(alloc: Global, world: &mut World, script: &[Call]) -> Result<String, 
         if !text.is_empty() {
             text.push_str(", ")?;
         }
-        let reply = world.step(alloc, call)?;
-        text.push_str(reply_text(alloc, reply)?.as_str())?;
+        push_reply(alloc, &mut text, world.step(alloc, call)?)?;
     }
     Ok(text)
+}
+
+fn push_reply(alloc: Global, text: &mut String, reply: Reply) -> Result<(), AllocError> {
+    match reply {
+        Reply::Done(value) => text.push_str(format!(in alloc; "ok {value}")?.as_str()),
+        Reply::Refused(errno) => text.push_str(format!(in alloc; "errno {errno}")?.as_str()),
+        Reply::Killed => text.push_str("killed"),
+    }
 }

@@ -1,6 +1,4 @@
 //! A folder with a name that is no text. std makes no such name, so what the system lists is made up here.
-use crate::shelves::answers;
-use host_io::DirShelf;
 use std::alloc::{AllocError, Allocator, Global};
 use std::fs::{Metadata, OpenOptions};
 use std::io;
@@ -10,9 +8,9 @@ use std::rt::Files;
 // What a folder lists, each name ended by a NUL.
 const NAMES: &[u8] = b"web.service\0\xff.conf\0";
 
-// A folder whose names one read gives.
+/// A folder whose names one read gives.
 #[derive(Drop)]
-struct Folder {
+pub struct Folder {
     is_read: bool,
 }
 
@@ -27,17 +25,22 @@ impl Read for Folder {
     }
 }
 
-// The files of the system, but each folder lists a file, and then a name that is no text.
+/// The files of the system, but each folder lists a file, and then a name that is no text.
 #[derive(Drop)]
-struct OddNames<R> {
+pub struct OddNames<R> {
     rt: R,
+}
+
+impl<R: Clone + Drop> OddNames<R> {
+    /// The files of this system, but for what its folders list.
+    pub fn new(rt: &R) -> Result<Self, AllocError> {
+        Ok(OddNames { rt: rt.clone()? })
+    }
 }
 
 impl<R: Clone + Drop> Clone for OddNames<R> {
     fn clone(&self) -> Result<Self, AllocError> {
-        Ok(OddNames {
-            rt: self.rt.clone()?,
-        })
+        OddNames::new(&self.rt)
     }
 }
 
@@ -93,13 +96,4 @@ impl<R: Files> Files for OddNames<R> {
     fn remove_dir_all<B: Allocator>(&self, alloc: B, path: &str) -> io::Result<()> {
         self.rt.remove_dir_all(alloc, path)
     }
-}
-
-/// Returns the answer of the current folder to the call of a row, if its folders have such a name.
-pub fn of_shelf<R: Files + AllocGlobal + Clone + Drop>(
-    rt: &R,
-    words: &[&str],
-) -> Result<String, AllocError> {
-    let mut shelf = DirShelf::new(OddNames { rt: rt.clone()? });
-    answers::of_shelf(&mut shelf, rt.alloc(), words)
 }
