@@ -35,19 +35,19 @@ data Shape (world : World) : Reply × World → Type 0 where
 
 shape_child : (old world : World) (child : Process) (own : Bool) → Shape old (child_in old world child own)
 shape_child old world child false = done _ _
-shape_child old world child true = by (nat_lt (length world.tables) 64)
+shape_child old world child true = by (nat_lt (length world.namespaces) 64)
   where
-    by : (b : Bool) → Shape old (cond {A = Reply × World} b (w.Done (length world.processes + 1), with_child (with_copy world child.namespace child.user) (moved_to child (length world.tables))) (w.Refused enospc, old))
+    by : (b : Bool) → Shape old (cond {A = Reply × World} b (w.Done (length world.processes + 1), with_child (with_copy world child.namespace child.user) (moved_to child (length world.namespaces))) (w.Refused enospc, old))
     by true = done _ _
     by false = refused _
 
 shape_moved : (old world : World) (pid : ℕ) (process : Process) (own : Bool) → Shape old (moved_in old world pid process own)
 shape_moved old world pid process false = done _ _
-shape_moved old world pid process true = by (nat_lt (length world.tables) 64)
+shape_moved old world pid process true = by (nat_lt (length world.namespaces) 64)
   where
     by : (b : Bool) → Shape old
         (cond {A = Reply × World} b
-        (w.Done 0, with_process (with_copy world process.namespace process.user) pid (moved_to process (length world.tables)))
+        (w.Done 0, with_process (with_copy world process.namespace process.user) pid (moved_to process (length world.namespaces)))
         (w.Refused enospc, old))
     by true = done _ _
     by false = refused _

@@ -17,7 +17,8 @@ use Rattle.ceilings.specs.kernel_model.declared.kernel_calls.payload.Payload.{Pa
 use Rattle.ceilings.specs.kernel_model.declared.kernel_calls.payload.Payload.TheVariants as pay
 use Rattle.ceilings.specs.kernel_model.MountStep.{stepped_by}
 use Rattle.ceilings.specs.kernel_model.Runs.{IsDone}
-use Rattle.ceilings.specs.kernel_model.World.{World, start_world, living_of, table_of, table_or, of_number, if_alive}
+use Rattle.ceilings.specs.kernel_model.MountNamespaces.{namespace_or}
+use Rattle.ceilings.specs.kernel_model.World.{World, start_world, living_of, table_of, of_number, if_alive}
 use Rattle.ceilings.specs.kernel_model.declared.process.Process.{Process}
 use Rattle.ceilings.specs.kernel_model.declared.reply.Reply.{Reply}
 use Rattle.ceilings.specs.kernel_model.declared.reply.Reply.TheVariants as w
@@ -180,7 +181,7 @@ living_solo : (lines : calls.Table) (site : Site) (Q : Creds → Type 0) (stack 
 living_solo lines site Q stack plan world at process lives =
     let own : Some _ ≡ Some process = sym (ap (λ (v : World). living_of v 1) at.is) ∙ lives in
     let number : process.namespace ≡ at.namespace = by process own in
-    ap (table_of world) number ∙ ap (λ (v : World). table_of v at.namespace) at.is ∙ ap (λ o. steps_of (table_or o)) at.own
+    ap (table_of world) number ∙ ap (λ (v : World). table_of v at.namespace) at.is ∙ ap (λ o. steps_of (namespace_or o).table) at.own
     ∙ steps_plain plan
   where
     by : (process : Process) → ◌≡◌ {A = Option Process}
@@ -199,7 +200,7 @@ pub has_plan : {lines : calls.Table} {site : Site} {wanted : Wanted} {plan : Tab
 has_plan {plan = plan} l = record {
   process = record { creds = l.creds; stack = l.stack; namespace = l.namespace; user = 1; alive = true };
   lives = ap (λ (ps : List Process). if_alive (of_number ps 1)) l.alone;
-  own = ap (λ o. steps_of (table_or o)) l.own ∙ steps_plain plan;
+  own = ap (λ o. steps_of (namespace_or o).table) l.own ∙ steps_plain plan;
 }
 
 abbrev before_filters : calls.Table → Wanted → Table → List LaunchStep

@@ -105,23 +105,23 @@ module _ (site other : Site) where
     born_in : (old now : World) (child : Process) (own : Bool)
         → child_in (with_site other old) (with_site other now) child own ≡ sited (child_in old now child own)
     born_in old now child false = refl
-    born_in old now child true = by (nat_lt (length now.tables) most_namespaces)
+    born_in old now child true = by (nat_lt (length now.namespaces) most_namespaces)
       where
-        by : (b : Bool) → cond {A = Reply × World} b (w.Done (length now.processes + 1), with_site other (with_child (with_copy now child.namespace child.user) (moved_to child (length now.tables)))) (w.Refused enospc, with_site other old)
-            ≡ sited (cond {A = Reply × World} b (w.Done (length now.processes + 1), with_child (with_copy now child.namespace child.user) (moved_to child (length now.tables))) (w.Refused enospc, old))
+        by : (b : Bool) → cond {A = Reply × World} b (w.Done (length now.processes + 1), with_site other (with_child (with_copy now child.namespace child.user) (moved_to child (length now.namespaces)))) (w.Refused enospc, with_site other old)
+            ≡ sited (cond {A = Reply × World} b (w.Done (length now.processes + 1), with_child (with_copy now child.namespace child.user) (moved_to child (length now.namespaces))) (w.Refused enospc, old))
         by true = refl
         by false = refl
 
     moved_sited : (old now : World) (own' : Process) (own : Bool)
         → moved_in (with_site other old) (with_site other now) pid own' own ≡ sited (moved_in old now pid own' own)
     moved_sited old now own' false = refl
-    moved_sited old now own' true = by (nat_lt (length now.tables) most_namespaces)
+    moved_sited old now own' true = by (nat_lt (length now.namespaces) most_namespaces)
       where
         by : (b : Bool) → cond {A = Reply × World} b
-            (w.Done 0, with_site other (with_process (with_copy now own'.namespace own'.user) pid (moved_to own' (length now.tables))))
+            (w.Done 0, with_site other (with_process (with_copy now own'.namespace own'.user) pid (moved_to own' (length now.namespaces))))
             (w.Refused enospc, with_site other old)
             ≡ sited (cond {A = Reply × World} b
-            (w.Done 0, with_process (with_copy now own'.namespace own'.user) pid (moved_to own' (length now.tables)))
+            (w.Done 0, with_process (with_copy now own'.namespace own'.user) pid (moved_to own' (length now.namespaces)))
             (w.Refused enospc, old))
         by true = refl
         by false = refl

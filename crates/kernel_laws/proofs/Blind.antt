@@ -169,7 +169,7 @@ blind_is_sound world folder s b list fit e =
     let held = ceiling_run launch s.launched below (tables_stable launch (power_of launch) s.launched.ordered) list world fit (launched_held world below s) in
     let now = run world list in
     let h = held.each (e.pid - 1) e.process (lives now e.pid e.process e.lives).place in
-    by (eqb h.owner 1) (own_allowed launch (power_of launch) (ceiling launch) below now e.process h)
+    by (eqb h.space.owner 1) (own_allowed launch (power_of launch) (ceiling launch) below now e.process h)
   where
     seen : SeesBelow folder (table_of (run world list) e.process.namespace)
     seen = record { path = e.path; place = e.place; shown = e.shown; below = e.below }

@@ -13,7 +13,7 @@ use Rattle.kernel_model.specs.declared.kernel_calls.call.Call.{Call}
 use Rattle.kernel_model.specs.kernel_calls.Calls.{IsCall, AreCalls}
 use Rattle.kernel_laws.specs.Bound.{bounds_by, power_of, ceiling}
 use Rattle.kernel_laws.specs.Bounds.{Bounds, Keeps, KeepsIds, KeepsIn}
-use Rattle.kernel_laws.specs.Ceiling.{CanHave, IsClosed, IsStable, IsHeld, AreHeld}
+use Rattle.kernel_laws.specs.Ceiling.{CanHave, IsClosed, IsStable, IsHeld, AreHeld, TableIn}
 use Rattle.kernel_laws.specs.Denied.{Holds, SomeLiving, HasGid}
 use Rattle.kernel_laws.specs.declared.question_types.kind.CallKind.TheVariants.{TakesUid, TakesGid}
 use Rattle.kernel_laws.specs.declared.question_types.power.Power.{Power}
@@ -22,7 +22,7 @@ use Rattle.kernel_laws.specs.declared.question_types.question.Question.TheVarian
 use Rattle.kernel_laws.specs.Launched.{Launch, lets, launch_of, first_of, IsLaunched, IsLaunchedWorld}
 use Rattle.kernel_model.specs.Runs.{run}
 use Rattle.kernel_model.specs.Step.{step}
-use Rattle.kernel_model.specs.World.{World, mounts_of, is_newer}
+use Rattle.kernel_model.specs.World.{World, namespace_of, mounts_of, is_newer}
 use Rattle.kernel_model.specs.declared.process.Process.{Process}
 use Rattle.kernel_laws.proofs.Bound.{is_closed, kept_launch}
 use Rattle.kernel_laws.proofs.Filters.{lets_through}
@@ -40,22 +40,20 @@ module _ (world : World) (s : IsLaunchedWorld world) (uids gids : Bool) (power :
   first = first_of world
 
   abbrev Held : Process → Type 0
-  Held = IsHeld (launch_of world) power (bounds_by (launch_of world) uids gids power) below world.tables world.owners
+  Held = IsHeld (launch_of world) power (bounds_by (launch_of world) uids gids power) below world.namespaces
 
   first_held : Held first
   first_held =
-      let place = number_get world.tables first.namespace (mounts_of world first.namespace) s.own in
+      let place = number_get world.namespaces first.namespace (namespace_of world first.namespace) s.own in
       record {
         creds = let P : Bool → Type 0 = λ b. KeepsIn b (bounds_by (launch_of world) uids gids power) first.creds in subst P (sym not_newer) (kept_launch (launch_of world) uids gids power s.launched);
         newer = [];
         stack = sym (append-nil first.stack);
-        table = mounts_of world first.namespace;
+        space = namespace_of world first.namespace;
         numbered = place.0;
         own = place.1;
-        owner = 1;
-        owned = (number_get world.owners first.namespace 1 s.home).1;
-        allowed = record { plain = s.plain; entries = have_own power (launch_of world).table s.launched.rooted };
-        home = λ e. refl;
+        allowed = let P : ℕ → Type 0 = λ o. TableIn (eqb o 1) (launch_of world) power below (mounts_of world first.namespace) in subst P (sym s.home) (record { plain = s.plain; entries = have_own power (launch_of world).table s.launched.rooted });
+        home = λ e. s.home;
         made = λ e. let no' : true ≡ false = sym e ∙ not_newer in cc;
       }
     where
@@ -63,14 +61,14 @@ module _ (world : World) (s : IsLaunchedWorld world) (uids gids : Bool) (power :
       not_newer = ap (λ u. not (eqb u 1)) s.user
 
   pub start_held : AreHeld (launch_of world) power (bounds_by (launch_of world) uids gids power) below world
-  start_held = record { calls = refl; site = refl; numbers = s.numbers; each = λ at process e. by at process (ap (λ (ps : List Process). slice_get ps at) (sym s.alone) ∙ e) }
+  start_held = record { calls = refl; site = refl; each = λ at process e. by at process (ap (λ (ps : List Process). slice_get ps at) (sym s.alone) ∙ e) }
     where
       by : (at : ℕ) (process : Process) → slice_get (first ∷ []) at ≡ Some process → Held process
       by zero process e = let same : first ≡ process = cc in subst Held same first_held
       by (suc at) process e = cc
 
 module _ (launch : Launch) (power : Power) (top : Bounds) (below : Mounts → Type 0) (now : World) (held : AreHeld launch power top below now) where
-  some_held : (P : Process → Type 0) → (s : SomeLiving P now) → IsHeld launch power top below now.tables now.owners s.process
+  some_held : (P : Process → Type 0) → (s : SomeLiving P now) → IsHeld launch power top below now.namespaces s.process
   some_held P s = held.each (s.pid - 1) s.process (lives now s.pid s.process s.lives).place
 
   some_ids : (P : Process → Type 0) → (s : SomeLiving P now) → KeepsIds top s.process.creds

@@ -85,7 +85,7 @@ module _ (launch : Launch) (l : IsLaunched launch) (below : Mounts → Type 0) (
   abbrev All : World → Type 0
   All = AllHeld launch below
 
-  held_of : (now : World) (call : Call) → All now → (w : WasDone now call) → IsHeld launch power top below now.tables now.owners w.process
+  held_of : (now : World) (call : Call) → All now → (w : WasDone now call) → IsHeld launch power top below now.namespaces w.process
   held_of now call held w = held.each (call.pid - 1) w.process w.living.place
 
   kind_lets : (now : World) (call : Call) → IsCall call → All now → (w : WasDone now call) → (kind : CallKind) → asks kind w.operation ≡ true
@@ -191,7 +191,7 @@ module _ (launch : Launch) (l : IsLaunched launch) (below : Mounts → Type 0) (
       let fit' = wish_fits now call.pid w.process wish w.operation r.path r.target wanted found w.done in
       let lead = leads launch.site.rows table r.path r.target (fits wish) seen fit' in
       let h = held_of now call held w in
-      let there = reaches_in less (eqb h.owner 1) (mounts_of now w.process.namespace) r.target.path wish (own_allowed launch power top below now w.process h) lead in
+      let there = reaches_in less (eqb h.space.owner 1) (mounts_of now w.process.namespace) r.target.path wish (own_allowed launch power top below now w.process h) lead in
       let open' = free (is_to_exec wish) (is_barred launch r.target) (runs_plainly launch power r.target) (can_make_user launch) (λ exec elsewhere off.
       let is_exec = only_exec wish exec in
       let runs : fits ToExec (flags_at table r.path) ≡ true = ap (λ (v : Wish). fits v (flags_at table r.path)) (sym is_exec) ∙ fit' in

@@ -1,5 +1,5 @@
 -- What bounds every process of the service, and when such bounds are left by no call.
-use Rattle.std.specs.Prelude.{◌≡◌, ℕ, ◌-◌, Bool, true, false, ◌==◌, List, ◌++◌, length, Some, Ok, slice_get}
+use Rattle.std.specs.Prelude.{◌≡◌, ℕ, ◌-◌, Bool, true, false, ◌==◌, List, ◌++◌, Some, Ok, slice_get}
 use Rattle.filter_settings.specs.bpf_code.declared.machine.Insn.{Insn}
 use Rattle.kernel_model.specs.abs_path.Paths.{Path}
 use Rattle.kernel_model.specs.cap_sets.Sets.{has, IsWithin}
@@ -24,6 +24,7 @@ use Rattle.kernel_model.specs.kern_files.MountCall.{after_mount}
 use Rattle.kernel_model.specs.kern_files.UmountCall.{umount_answer}
 use Rattle.kernel_model.specs.kern_mounts.Copying.{locked_copy}
 use Rattle.kernel_model.specs.World.{World, is_newer}
+use Rattle.kernel_model.specs.declared.mount_namespace.MountNamespace.{MountNamespace}
 use Rattle.kernel_model.specs.declared.process.Process.{Process}
 use Rattle.kernel_laws.specs.Launched.{Launch, lets, can_make_user}
 
@@ -77,28 +78,25 @@ TableIn true launch power below mounts = CanHold power launch.table mounts
 TableIn false launch power below mounts = below mounts
 
 -- what holds of each process in each world of a run
-pub record IsHeld (launch : Launch) (power : Power) (top : Bounds) (below : Mounts → Type 0) (tables : List Mounts) (owners : List ℕ) (process : Process) : Type 0 where
+pub record IsHeld (launch : Launch) (power : Power) (top : Bounds) (below : Mounts → Type 0) (namespaces : List MountNamespace) (process : Process) : Type 0 where
   pub creds : KeepsIn (is_newer process) top process.creds
   pub newer : List (List Insn)
   pub stack : process.stack ≡ launch.stack ++ newer
-  pub table : Mounts
+  -- its mount namespace
+  pub space : MountNamespace
   pub numbered : (process.namespace == 0) ≡ false
-  pub own : slice_get tables (process.namespace - 1) ≡ Some table
-  -- the user namespace that the mount namespace belongs to
-  pub owner : ℕ
-  pub owned : slice_get owners (process.namespace - 1) ≡ Some owner
-  pub allowed : TableIn (owner == 1) launch power below table
+  pub own : slice_get namespaces (process.namespace - 1) ≡ Some space
+  pub allowed : TableIn (space.owner == 1) launch power below space.table
   -- in the first user namespace it is in a mount namespace of that, and another one was made
-  pub home : is_newer process ≡ false → owner ≡ 1
+  pub home : is_newer process ≡ false → space.owner ≡ 1
   pub made : is_newer process ≡ true → can_make_user launch ≡ true
 
 -- the table of calls and the site stay, and each process that was made is held
 pub record AreHeld (launch : Launch) (power : Power) (top : Bounds) (below : Mounts → Type 0) (world : World) : Type 0 where
   pub calls : world.calls ≡ launch.calls
   pub site : world.site ≡ launch.site
-  pub numbers : length world.owners ≡ length world.tables
   pub each : (at : ℕ) (process : Process) → slice_get world.processes at ≡ Some process
-      → IsHeld launch power top below world.tables world.owners process
+      → IsHeld launch power top below world.namespaces process
 
 -- an effect that keeps within the bounds, by whether the process is in a newer user namespace and whether its mount namespace belongs to
 -- the first one

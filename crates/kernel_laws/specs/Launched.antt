@@ -1,5 +1,5 @@
 -- A launched service: what it begins with, what its filters let through, and the facts that a launch ensures.
-use Rattle.std.specs.Prelude.{◌≡◌, ℕ, ◌<◌, ◌^◌, ◌&&◌, nat_lt, Bool, true, false, if◌then◌else◌, List, [], ◌∷◌, length, All, slice_get}
+use Rattle.std.specs.Prelude.{◌≡◌, ℕ, ◌<◌, ◌^◌, ◌&&◌, nat_lt, Bool, true, false, if◌then◌else◌, List, [], ◌∷◌, All, slice_get}
 use Rattle.std.specs.Prelude.{Option, Some, None}
 use Rattle.std.specs.Option.{option_or}
 use Rattle.std.specs.List.{list_any}
@@ -29,7 +29,7 @@ use Rattle.kernel_model.specs.declared.kernel_calls.rule.Rule.{Rule}
 use Rattle.kernel_model.specs.kernel_calls.Rules.{rule_of, rule_at}
 use Rattle.kernel_model.specs.kernel_calls.Operation.{Operation, operation_by}
 use Rattle.kernel_model.specs.declared.process.Process.{Process}
-use Rattle.kernel_model.specs.World.{World, of_number, process_of, mounts_of, table_of}
+use Rattle.kernel_model.specs.World.{World, of_number, process_of, namespace_of, mounts_of, table_of, owner_of}
 use Rattle.kernel_laws.specs.Kinds.{asks, words, wide_words, AreWords}
 use Rattle.kernel_laws.specs.declared.question_types.kind.CallKind.{CallKind}
 use Rattle.kernel_laws.specs.declared.question_types.kind.CallKind.TheVariants.{ForNamespace, SetsCaps}
@@ -151,11 +151,10 @@ pub record IsLaunchedWorld (world : World) : Type 0 where
   pub alone : world.processes ≡ first_of world ∷ []
   pub lives : (first_of world).alive ≡ true
   pub user : (first_of world).user ≡ 1
-  pub home : of_number world.owners (first_of world).namespace ≡ Some 1
-  pub numbers : length world.owners ≡ length world.tables
+  pub home : owner_of world (first_of world).namespace ≡ 1
   -- no other user namespace was made
   pub no_users : world.users ≡ 0
-  pub own : of_number world.tables (first_of world).namespace ≡ Some (mounts_of world (first_of world).namespace)
+  pub own : of_number world.namespaces (first_of world).namespace ≡ Some (namespace_of world (first_of world).namespace)
   -- no mount of it is locked, and none keeps a flag
   pub plain : ArePlainMounts (mounts_of world (first_of world).namespace)
   pub launched : IsLaunched (launch_of world)

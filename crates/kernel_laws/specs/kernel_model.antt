@@ -1,5 +1,6 @@
 -- The definitions of `kernel_model` that crates above take from here.
 pub use Rattle.kernel_model.specs.Effects as Effects
+pub use Rattle.kernel_model.specs.MountNamespaces as MountNamespaces
 pub use Rattle.kernel_model.specs.MountStep as MountStep
 pub use Rattle.kernel_model.specs.Runs as Runs
 pub use Rattle.kernel_model.specs.Step as Step

@@ -3,7 +3,6 @@ use Rattle.std.proofs.Common.{◌≡◌, ℕ, ◌<◌, ◌≤◌, Bool, true, fa
 use Rattle.std.specs.Prelude.{nat_lt}
 use Rattle.bpf_code.specs.declared.decision.Decision.{Decision}
 use Rattle.bpf_code.specs.declared.decision.Decision.TheVariants as decision
-use Rattle.bpf_code.specs.Stack.{decision_on}
 use Rattle.kern_mounts.specs.linux_numbers.Errnos.{eagain, enospc}
 use Rattle.kernel_model.specs.declared.kernel_calls.call.Call.{Call}
 use Rattle.kernel_model.specs.kernel_calls.Operation.{Asked, Lacking, Misformed, Does, asked_of}
@@ -32,39 +31,39 @@ is_more : (a b : ℕ) → b ≤ a → nat_lt a b ≡ false
 is_more a b h = grind (arith, h)
 
 case_child : (world : World) (pid : ℕ) (process : Process) (own t : Bool) → length world.processes < most_processes
-    → nat_lt (length world.tables) most_namespaces ≡ t → EffectCase world pid process (f.Child own) (child_of world process own)
+    → nat_lt (length world.namespaces) most_namespaces ≡ t → EffectCase world pid process (f.Child own) (child_of world process own)
 case_child world pid process false t room e = case.shares room
-case_child world pid process true true room e = rw e (case.gives_copy room (less_is (length world.tables) most_namespaces e))
-case_child world pid process true false room e = rw e (case.no_namespace_for_child room (more_is (length world.tables) most_namespaces e))
+case_child world pid process true true room e = rw e (case.gives_copy room (less_is (length world.namespaces) most_namespaces e))
+case_child world pid process true false room e = rw e (case.no_namespace_for_child room (more_is (length world.namespaces) most_namespaces e))
 
 case_process : (world : World) (pid : ℕ) (process : Process) (own t : Bool) → nat_lt (length world.processes) most_processes ≡ t
     → EffectCase world pid process (f.Child own) (cond t (child_of world process own) (reply.Refused eagain, world))
-case_process world pid process own true e = case_child world pid process own (nat_lt (length world.tables) most_namespaces)
+case_process world pid process own true e = case_child world pid process own (nat_lt (length world.namespaces) most_namespaces)
     (less_is (length world.processes) most_processes e) refl
 case_process world pid process own false e = case.no_process_left own (more_is (length world.processes) most_processes e)
 
-case_table : (world : World) (pid : ℕ) (process : Process) (t : Bool) → nat_lt (length world.tables) most_namespaces ≡ t
+case_table : (world : World) (pid : ℕ) (process : Process) (t : Bool) → nat_lt (length world.namespaces) most_namespaces ≡ t
     → EffectCase world pid process f.OwnTable
-    (cond t (reply.Done 0, with_process (with_copy world process.namespace process.user) pid (moved_to process (length world.tables)))
+    (cond t (reply.Done 0, with_process (with_copy world process.namespace process.user) pid (moved_to process (length world.namespaces)))
     (reply.Refused enospc, world))
-case_table world pid process true e = case.moves (less_is (length world.tables) most_namespaces e)
-case_table world pid process false e = case.no_namespace_left (more_is (length world.tables) most_namespaces e)
+case_table world pid process true e = case.moves (less_is (length world.namespaces) most_namespaces e)
+case_table world pid process false e = case.no_namespace_left (more_is (length world.namespaces) most_namespaces e)
 
 case_user_child : (world : World) (pid : ℕ) (process : Process) (own t : Bool) → world.users < world.site.user_namespaces
-    → length world.processes < most_processes → nat_lt (length world.tables) most_namespaces ≡ t
+    → length world.processes < most_processes → nat_lt (length world.namespaces) most_namespaces ≡ t
     → EffectCase world pid process (f.UserChild own) (child_in world (with_user world) (entered_by process world.users) own)
 case_user_child world pid process false t left room e = case.gives_user left room
 case_user_child world pid process true true left room e = rw e
-    (case.gives_user_and_copy left room (less_is (length world.tables) most_namespaces e))
+    (case.gives_user_and_copy left room (less_is (length world.namespaces) most_namespaces e))
 case_user_child world pid process true false left room e = rw e
-    (case.no_namespace_for_user left room (more_is (length world.tables) most_namespaces e))
+    (case.no_namespace_for_user left room (more_is (length world.namespaces) most_namespaces e))
 
 case_user_process : (world : World) (pid : ℕ) (process : Process) (own t : Bool) → world.users < world.site.user_namespaces
     → nat_lt (length world.processes) most_processes ≡ t
     → EffectCase world pid process (f.UserChild own)
     (cond t (child_in world (with_user world) (entered_by process world.users) own) (reply.Refused eagain, world))
 case_user_process world pid process own true left e = case_user_child world pid process own
-    (nat_lt (length world.tables) most_namespaces) left (less_is (length world.processes) most_processes e) refl
+    (nat_lt (length world.namespaces) most_namespaces) left (less_is (length world.processes) most_processes e) refl
 case_user_process world pid process own false left e = case.no_process_for_user own left (more_is (length world.processes) most_processes e)
 
 case_user : (world : World) (pid : ℕ) (process : Process) (own t : Bool) → has_user_left world ≡ t
@@ -77,17 +76,17 @@ case_user world pid process own true e = case_user_process world pid process own
 case_user world pid process own false e = case.no_user_for_child own (more_is world.users world.site.user_namespaces e)
 
 case_enters : (world : World) (pid : ℕ) (process : Process) (own t : Bool) → world.users < world.site.user_namespaces
-    → nat_lt (length world.tables) most_namespaces ≡ t
+    → nat_lt (length world.namespaces) most_namespaces ≡ t
     → EffectCase world pid process (f.OwnUser own) (moved_in world (with_user world) pid (entered_by process world.users) own)
 case_enters world pid process false t left e = case.enters left
-case_enters world pid process true true left e = rw e (case.enters_and_moves left (less_is (length world.tables) most_namespaces e))
+case_enters world pid process true true left e = rw e (case.enters_and_moves left (less_is (length world.namespaces) most_namespaces e))
 case_enters world pid process true false left e =
-    rw e (case.no_namespace_behind_user left (more_is (length world.tables) most_namespaces e))
+    rw e (case.no_namespace_behind_user left (more_is (length world.namespaces) most_namespaces e))
 
 case_own : (world : World) (pid : ℕ) (process : Process) (own t : Bool) → has_user_left world ≡ t
     → EffectCase world pid process (f.OwnUser own)
     (cond t (moved_in world (with_user world) pid (entered_by process world.users) own) (reply.Refused enospc, world))
-case_own world pid process own true e = case_enters world pid process own (nat_lt (length world.tables) most_namespaces)
+case_own world pid process own true e = case_enters world pid process own (nat_lt (length world.namespaces) most_namespaces)
     (less_is world.users world.site.user_namespaces e) refl
 case_own world pid process own false e = case.no_user_left own (more_is world.users world.site.user_namespaces e)
 
@@ -99,7 +98,7 @@ effect_case world pid process (f.SetCreds creds) = case.takes_creds creds
 effect_case world pid process (f.SetTable table) = case.takes_table table
 effect_case world pid process (f.Push program) = case.takes_program program
 effect_case world pid process (f.Child own) = case_process world pid process own (nat_lt (length world.processes) most_processes) refl
-effect_case world pid process f.OwnTable = case_table world pid process (nat_lt (length world.tables) most_namespaces) refl
+effect_case world pid process f.OwnTable = case_table world pid process (nat_lt (length world.namespaces) most_namespaces) refl
 effect_case world pid process (f.UserChild own) = case_user world pid process own (has_user_left world) refl
 effect_case world pid process (f.OwnUser own) = case_own world pid process own (has_user_left world) refl
 effect_case world pid process f.End = case.ends
@@ -136,24 +135,24 @@ effect_is world pid process effect out (case.takes_program program) = refl
 effect_is world pid process effect out (case.no_process_left own full) = rw (is_more (length world.processes) most_processes full) refl
 effect_is world pid process effect out (case.shares room) = rw (is_less (length world.processes) most_processes room) refl
 effect_is world pid process effect out (case.no_namespace_for_child room full) =
-    rw (is_less (length world.processes) most_processes room, is_more (length world.tables) most_namespaces full) refl
+    rw (is_less (length world.processes) most_processes room, is_more (length world.namespaces) most_namespaces full) refl
 effect_is world pid process effect out (case.gives_copy room space) =
-    rw (is_less (length world.processes) most_processes room, is_less (length world.tables) most_namespaces space) refl
-effect_is world pid process effect out (case.no_namespace_left full) = rw (is_more (length world.tables) most_namespaces full) refl
-effect_is world pid process effect out (case.moves space) = rw (is_less (length world.tables) most_namespaces space) refl
+    rw (is_less (length world.processes) most_processes room, is_less (length world.namespaces) most_namespaces space) refl
+effect_is world pid process effect out (case.no_namespace_left full) = rw (is_more (length world.namespaces) most_namespaces full) refl
+effect_is world pid process effect out (case.moves space) = rw (is_less (length world.namespaces) most_namespaces space) refl
 effect_is world pid process effect out (case.no_user_for_child own full) = rw (is_more world.users world.site.user_namespaces full) refl
 effect_is world pid process effect out (case.no_process_for_user own left full) =
     rw (is_less world.users world.site.user_namespaces left, is_more (length world.processes) most_processes full) refl
 effect_is world pid process effect out (case.gives_user left room) =
     rw (is_less world.users world.site.user_namespaces left, is_less (length world.processes) most_processes room) refl
-effect_is world pid process effect out (case.no_namespace_for_user left room full) = rw (is_less world.users world.site.user_namespaces left, is_less (length world.processes) most_processes room, is_more (length world.tables) most_namespaces full) refl
-effect_is world pid process effect out (case.gives_user_and_copy left room space) = rw (is_less world.users world.site.user_namespaces left, is_less (length world.processes) most_processes room, is_less (length world.tables) most_namespaces space) refl
+effect_is world pid process effect out (case.no_namespace_for_user left room full) = rw (is_less world.users world.site.user_namespaces left, is_less (length world.processes) most_processes room, is_more (length world.namespaces) most_namespaces full) refl
+effect_is world pid process effect out (case.gives_user_and_copy left room space) = rw (is_less world.users world.site.user_namespaces left, is_less (length world.processes) most_processes room, is_less (length world.namespaces) most_namespaces space) refl
 effect_is world pid process effect out (case.no_user_left own full) = rw (is_more world.users world.site.user_namespaces full) refl
 effect_is world pid process effect out (case.enters left) = rw (is_less world.users world.site.user_namespaces left) refl
 effect_is world pid process effect out (case.no_namespace_behind_user left full) =
-    rw (is_less world.users world.site.user_namespaces left, is_more (length world.tables) most_namespaces full) refl
+    rw (is_less world.users world.site.user_namespaces left, is_more (length world.namespaces) most_namespaces full) refl
 effect_is world pid process effect out (case.enters_and_moves left space) =
-    rw (is_less world.users world.site.user_namespaces left, is_less (length world.tables) most_namespaces space) refl
+    rw (is_less world.users world.site.user_namespaces left, is_less (length world.namespaces) most_namespaces space) refl
 effect_is world pid process effect out case.ends = refl
 
 passed_is : (world : World) (call : Call) (process : Process) → Passes world call process

@@ -25,7 +25,9 @@ use Rattle.kernel_model.specs.kern_files.UmountCall.{umount_answer}
 use Rattle.kernel_model.specs.declared.kernel_calls.call.Call.{Call}
 use Rattle.kernel_model.specs.kernel_calls.Operation as d
 use Rattle.kernel_model.specs.kernel_calls.Operation.{Operation}
+use Rattle.kernel_model.specs.declared.mount_namespace.MountNamespace.{MountNamespace}
 use Rattle.kernel_model.specs.declared.process.Process.{Process}
+use Rattle.kernel_model.specs.MountNamespaces.{copy_for, namespace_or, with_other_table}
 use Rattle.kernel_model.specs.declared.reply.Reply.{Reply}
 use Rattle.kernel_model.specs.Effects as f
 use Rattle.kernel_model.specs.Effects.{Effect, Host, Caller, thread_flag, newns, newuser, other_spaces, no_spaces, effect_of, looks}
@@ -34,13 +36,13 @@ use Rattle.kernel_model.specs.Effects.{unshare_effect, is_set_effect, ambient_ef
 use Rattle.kernel_model.specs.Effects.{push_effect, seccomp_effect, first_alone, socketcall_effect, socketpair_effect, no_pair, af_unix, protect_effect}
 use Rattle.kernel_model.specs.Effects.{attach_effect, attributes_effect, schedule_answer}
 use Rattle.kernel_model.specs.Effects.{set_mdwe_effect, prctl_effect_of}
-use Rattle.kernel_model.specs.World.{World, living_of, of_number, table_or, mounts_of, with_process, with_table, with_child, with_copy}
+use Rattle.kernel_model.specs.World.{World, living_of, of_number, namespace_of, mounts_of, with_process, with_table, with_child, with_copy}
 use Rattle.kernel_model.specs.World.{moved_to, ended, host_of, caller_of, owner_of, with_user, entered_by}
 use Rattle.kernel_model.specs.Step.{step, most_processes, most_namespaces}
 use Rattle.kernel_model.specs.StepCases as case
 use Rattle.kernel_model.specs.StepCases.{StepCase, EffectCase}
 use Rattle.kern_mounts.proofs.Mounts.{locked_steps}
-use Rattle.kernel_model.specs.Worlds.{AreRooted, HasSpace, IsRooted, IsKernel}
+use Rattle.kernel_model.specs.Worlds.{AreRooted, HasRoot, HasSpace, IsRooted, IsKernel}
 use Rattle.kernel_model.specs.Laws.{WorldsStay, ToldStays}
 use Rattle.kernel_model.proofs.Lists.{each-set, each-append, each-get, each-map, length-set, length-push}
 use Rattle.kernel_model.proofs.Places.{living_get}
@@ -48,7 +50,7 @@ use Rattle.kernel_model.proofs.Rooted.{rooted_mount, rooted_umount_call}
 use Rattle.kernel_model.proofs.Cases.{steps_by_cases}
 
 abbrev pub Kernel : World → Type 0
-Kernel world = IsKernel world.processes world.tables
+Kernel world = IsKernel world.processes world.namespaces
 
 -- a table that the effect makes is rooted
 abbrev pub Roots : Effect → Type 0
@@ -374,32 +376,33 @@ more_space count process h = record { numbered = h.numbered; within = omega (ari
 new_space : (count : ℕ) (process : Process) → HasSpace (count + 1) (moved_to process count)
 new_space count process = record { numbered = omega arith; within = omega arith }
 
-pub kernel_process : (world : World) (pid : ℕ) (process : Process) → Kernel world → HasSpace (length world.tables) process
+pub kernel_process : (world : World) (pid : ℕ) (process : Process) → Kernel world → HasSpace (length world.namespaces) process
     → Kernel (with_process world pid process)
 kernel_process world pid process k h = record {
   few_processes = subst (λ (n : ℕ). n ≤ most_processes) (sym (length-set world.processes (pid - 1) process)) k.few_processes;
   few_namespaces = k.few_namespaces;
-  spaces = each-set (HasSpace (length world.tables)) world.processes (pid - 1) process k.spaces h;
+  spaces = each-set (HasSpace (length world.namespaces)) world.processes (pid - 1) process k.spaces h;
   roots = k.roots;
 }
 
 pub kernel_table : (world : World) (namespace : ℕ) (table : Table) → Kernel world → IsRooted table
     → Kernel (with_table world namespace table)
 kernel_table world namespace table k h =
-    let same = length-set world.tables (namespace - 1) table in
+    let put = with_other_table (namespace_of world namespace) table in
+    let same = length-set world.namespaces (namespace - 1) put in
     record {
       few_processes = k.few_processes;
       few_namespaces = subst (λ (n : ℕ). n ≤ most_namespaces) (sym same) k.few_namespaces;
       spaces = subst (λ (n : ℕ). AllByRecursion (HasSpace n) world.processes) (sym same) k.spaces;
-      roots = each-set IsRooted world.tables (namespace - 1) table k.roots h;
+      roots = each-set HasRoot world.namespaces (namespace - 1) put k.roots h;
     }
 
 kernel_child : (world : World) (child : Process) → Kernel world → length world.processes < most_processes
-    → HasSpace (length world.tables) child → Kernel (with_child world child)
+    → HasSpace (length world.namespaces) child → Kernel (with_child world child)
 kernel_child world child k room h = record {
   few_processes = subst (λ (n : ℕ). n ≤ most_processes) (sym (length-push world.processes child)) (let more : length world.processes + 1 ≤ most_processes = omega (arith, room) in more);
   few_namespaces = k.few_namespaces;
-  spaces = each-append (HasSpace (length world.tables)) world.processes (child ∷ []) k.spaces (h, tt);
+  spaces = each-append (HasSpace (length world.namespaces)) world.processes (child ∷ []) k.spaces (h, tt);
   roots = k.roots;
 }
 
@@ -411,99 +414,99 @@ rooted_copied : (locked : Bool) (table : Table) → IsRooted table → IsRooted 
 rooted_copied false table h = h
 rooted_copied true table h = rooted_locked table h
 
-kernel_copy : (world : World) (namespace user : ℕ) → Kernel world → length world.tables < most_namespaces
+kernel_copy : (world : World) (namespace user : ℕ) → Kernel world → length world.namespaces < most_namespaces
     → IsRooted (mounts_of world namespace) → Kernel (with_copy world namespace user)
 kernel_copy world namespace user k room h =
-    let copy = copied (not (owner_of world namespace == user)) (mounts_of world namespace) in
-    let more = length-push world.tables copy in
+    let copy = copy_for (namespace_of world namespace) user in
+    let more = length-push world.namespaces copy in
     record {
       few_processes = k.few_processes;
-      few_namespaces = subst (λ (n : ℕ). n ≤ most_namespaces) (sym more) (let fits : length world.tables + 1 ≤ most_namespaces = omega (arith, room) in fits);
+      few_namespaces = subst (λ (n : ℕ). n ≤ most_namespaces) (sym more) (let fits : length world.namespaces + 1 ≤ most_namespaces = omega (arith, room) in fits);
       spaces = subst (λ (n : ℕ). AllByRecursion (HasSpace n) world.processes) (sym more)
-          (each-map (HasSpace (length world.tables)) (HasSpace (length world.tables + 1)) world.processes
-          (more_space (length world.tables)) k.spaces);
-      roots = each-append IsRooted world.tables (copy ∷ []) k.roots
+          (each-map (HasSpace (length world.namespaces)) (HasSpace (length world.namespaces + 1)) world.processes
+          (more_space (length world.namespaces)) k.spaces);
+      roots = each-append HasRoot world.namespaces (copy ∷ []) k.roots
           (rooted_copied (not (owner_of world namespace == user)) (mounts_of world namespace) h, tt);
     }
 
 -- the process in the new namespace
 moved_space : (world : World) (namespace user : ℕ) (process : Process)
-    → HasSpace (length (with_copy world namespace user).tables) (moved_to process (length world.tables))
+    → HasSpace (length (with_copy world namespace user).namespaces) (moved_to process (length world.namespaces))
 moved_space world namespace user process =
-    subst (λ (n : ℕ). HasSpace n (moved_to process (length world.tables)))
-    (sym (length-push world.tables (copied (not (owner_of world namespace == user)) (mounts_of world namespace))))
-    (new_space (length world.tables) process)
+    subst (λ (n : ℕ). HasSpace n (moved_to process (length world.namespaces)))
+    (sym (length-push world.namespaces (copy_for (namespace_of world namespace) user)))
+    (new_space (length world.namespaces) process)
 
 kernel_effect : (world : World) (pid : ℕ) (process : Process) (effect : Effect) (out : Reply × World) → Kernel world
-    → HasSpace (length world.tables) process → IsRooted (mounts_of world process.namespace) → MakesRooted effect
+    → HasSpace (length world.namespaces) process → IsRooted (mounts_of world process.namespace) → MakesRooted effect
     → EffectCase world pid process effect out → Kernel out.1
 kernel_effect world pid process effect out k h t r (case.refuses errno) = k
 kernel_effect world pid process effect out k h t r (case.answers value) = k
 kernel_effect world pid process effect out k h t r (case.takes_creds creds) =
     kernel_process world pid (record process { creds = creds }) k
-    (spaced (length world.tables) process (record process { creds = creds }) h refl)
+    (spaced (length world.namespaces) process (record process { creds = creds }) h refl)
 kernel_effect world pid process effect out k h t r (case.takes_table table) = kernel_table world process.namespace table k r.rooted
 kernel_effect world pid process effect out k h t r (case.takes_program program) =
     kernel_process world pid (record process { stack = process.stack ++ program ∷ [] }) k
-    (spaced (length world.tables) process (record process { stack = process.stack ++ program ∷ [] }) h refl)
+    (spaced (length world.namespaces) process (record process { stack = process.stack ++ program ∷ [] }) h refl)
 kernel_effect world pid process effect out k h t r (case.no_process_left own full) = k
 kernel_effect world pid process effect out k h t r (case.shares room) = kernel_child world process k room h
 kernel_effect world pid process effect out k h t r (case.no_namespace_for_child room full) = k
 kernel_effect world pid process effect out k h t r (case.gives_copy room space) =
-    kernel_child (with_copy world process.namespace process.user) (moved_to process (length world.tables))
+    kernel_child (with_copy world process.namespace process.user) (moved_to process (length world.namespaces))
     (kernel_copy world process.namespace process.user k space t) room (moved_space world process.namespace process.user process)
 kernel_effect world pid process effect out k h t r (case.no_namespace_left full) = k
 kernel_effect world pid process effect out k h t r (case.moves space) =
-    kernel_process (with_copy world process.namespace process.user) pid (moved_to process (length world.tables))
+    kernel_process (with_copy world process.namespace process.user) pid (moved_to process (length world.namespaces))
     (kernel_copy world process.namespace process.user k space t) (moved_space world process.namespace process.user process)
 kernel_effect world pid process effect out k h t r (case.no_user_for_child own full) = k
 kernel_effect world pid process effect out k h t r (case.no_process_for_user own left full) = k
 kernel_effect world pid process effect out k h t r (case.gives_user left room) =
     kernel_child (with_user world) (entered_by process world.users) k room
-    (spaced (length world.tables) process (entered_by process world.users) h refl)
+    (spaced (length world.namespaces) process (entered_by process world.users) h refl)
 kernel_effect world pid process effect out k h t r (case.no_namespace_for_user left room full) = k
 kernel_effect world pid process effect out k h t r (case.gives_user_and_copy left room space) =
     kernel_child (with_copy (with_user world) process.namespace (world.users + 2))
-    (moved_to (entered_by process world.users) (length world.tables))
+    (moved_to (entered_by process world.users) (length world.namespaces))
     (kernel_copy (with_user world) process.namespace (world.users + 2) k space t) room
     (moved_space (with_user world) process.namespace (world.users + 2) (entered_by process world.users))
 kernel_effect world pid process effect out k h t r (case.no_user_left own full) = k
 kernel_effect world pid process effect out k h t r (case.enters left) =
     kernel_process (with_user world) pid (entered_by process world.users) k
-    (spaced (length world.tables) process (entered_by process world.users) h refl)
+    (spaced (length world.namespaces) process (entered_by process world.users) h refl)
 kernel_effect world pid process effect out k h t r (case.no_namespace_behind_user left full) = k
 kernel_effect world pid process effect out k h t r (case.enters_and_moves left space) =
     kernel_process (with_copy (with_user world) process.namespace (world.users + 2)) pid
-    (moved_to (entered_by process world.users) (length world.tables))
+    (moved_to (entered_by process world.users) (length world.namespaces))
     (kernel_copy (with_user world) process.namespace (world.users + 2) k space t)
     (moved_space (with_user world) process.namespace (world.users + 2) (entered_by process world.users))
 kernel_effect world pid process effect out k h t r case.ends =
-    kernel_process world pid (ended process) k (spaced (length world.tables) process (ended process) h refl)
+    kernel_process world pid (ended process) k (spaced (length world.namespaces) process (ended process) h refl)
 
 -- a process of a kernel has a table, and it is rooted
-rooted_or : (tables : List Table) (number : ℕ) → AllByRecursion IsRooted tables → 1 ≤ number → number ≤ length tables
-    → IsRooted (table_or (of_number tables number))
-rooted_or tables number all one within = by (number - 1) (length tables) tables (nonzero number one) (omega (arith, one, within)) refl all
+rooted_or : (namespaces : List MountNamespace) (number : ℕ) → AllByRecursion HasRoot namespaces → 1 ≤ number → number ≤ length namespaces
+    → HasRoot (namespace_or (of_number namespaces number))
+rooted_or namespaces number all one within = by (number - 1) (length namespaces) namespaces (nonzero number one) (omega (arith, one, within)) refl all
   where
     nonzero : (n : ℕ) → 1 ≤ n → (n == 0) ≡ false
     nonzero n h = grind (arith, h)
 
-    get : (xs : List Table) (i : ℕ) → i < length xs → AllByRecursion IsRooted xs → IsRooted (table_or (slice_get xs i))
+    get : (xs : List MountNamespace) (i : ℕ) → i < length xs → AllByRecursion HasRoot xs → HasRoot (namespace_or (slice_get xs i))
     get [] i lt all = absurd (omega (arith, lt))
     get (x ∷ xs) zero lt all = all.0
     get (x ∷ xs) (suc i) lt all = let less : i < length xs = omega (arith, lt) in get xs i less all.1
 
-    by : (i n : ℕ) (xs : List Table) → (number == 0) ≡ false → i < n → n ≡ length xs → AllByRecursion IsRooted xs
-        → IsRooted (table_or (cond (number == 0) None (slice_get xs i)))
+    by : (i n : ℕ) (xs : List MountNamespace) → (number == 0) ≡ false → i < n → n ≡ length xs → AllByRecursion HasRoot xs
+        → HasRoot (namespace_or (cond (number == 0) None (slice_get xs i)))
     by i n xs zero_not lt is all = rw zero_not (get xs i (subst (λ (m : ℕ). i < m) is lt) all)
 
-pub rooted_table : (world : World) (process : Process) → Kernel world → HasSpace (length world.tables) process
+pub rooted_table : (world : World) (process : Process) → Kernel world → HasSpace (length world.namespaces) process
     → IsRooted (mounts_of world process.namespace)
-rooted_table world process k h = rooted_or world.tables process.namespace k.roots h.numbered h.within
+rooted_table world process k h = rooted_or world.namespaces process.namespace k.roots h.numbered h.within
 
 pub living_space : (world : World) (pid : ℕ) (process : Process) → Kernel world → living_of world pid ≡ Some process
-    → HasSpace (length world.tables) process
-living_space world pid process k living = each-get (HasSpace (length world.tables)) world.processes (pid - 1) process k.spaces
+    → HasSpace (length world.namespaces) process
+living_space world pid process k living = each-get (HasSpace (length world.namespaces)) world.processes (pid - 1) process k.spaces
     (living_get world pid process living)
 
 kernel_case : (world : World) (call : Call) (out : Reply × World) → Kernel world → StepCase world call out → Kernel out.1
@@ -511,7 +514,7 @@ kernel_case world call out k (case.absent e) = k
 kernel_case world call out k (case.filtered process errno living e) = k
 kernel_case world call out k (case.killed process living e) =
     kernel_process world call.pid (ended process) k
-    (spaced (length world.tables) process (ended process) (living_space world call.pid process k living) refl)
+    (spaced (length world.namespaces) process (ended process) (living_space world call.pid process k living) refl)
 kernel_case world call out k (case.lacking process passes e) = k
 kernel_case world call out k (case.misformed process passes e) = k
 kernel_case world call out k (case.does process operation made passes e h) =

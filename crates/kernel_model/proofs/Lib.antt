@@ -4,7 +4,6 @@ pub mod Places
 pub mod Cases
 pub mod Rooted
 pub mod Kernels
-pub mod Owners
 pub mod Oldest
 pub mod Sharing
 pub mod Lifts

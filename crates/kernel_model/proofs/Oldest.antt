@@ -36,23 +36,23 @@ oldest_effect programs world pid process effect out all h (case.shares room) =
     each-append (StandsOn programs) world.processes (process ∷ []) all (h, tt)
 oldest_effect programs world pid process effect out all h (case.no_namespace_for_child room full) = all
 oldest_effect programs world pid process effect out all h (case.gives_copy room space) =
-    each-append (StandsOn programs) world.processes (moved_to process (length world.tables) ∷ []) all (h, tt)
+    each-append (StandsOn programs) world.processes (moved_to process (length world.namespaces) ∷ []) all (h, tt)
 oldest_effect programs world pid process effect out all h (case.no_namespace_left full) = all
 oldest_effect programs world pid process effect out all h (case.moves space) =
-    each-set (StandsOn programs) world.processes (pid - 1) (moved_to process (length world.tables)) all h
+    each-set (StandsOn programs) world.processes (pid - 1) (moved_to process (length world.namespaces)) all h
 oldest_effect programs world pid process effect out all h (case.no_user_for_child own full) = all
 oldest_effect programs world pid process effect out all h (case.no_process_for_user own left full) = all
 oldest_effect programs world pid process effect out all h (case.gives_user left room) =
     each-append (StandsOn programs) world.processes (entered_by process world.users ∷ []) all (h, tt)
 oldest_effect programs world pid process effect out all h (case.no_namespace_for_user left room full) = all
 oldest_effect programs world pid process effect out all h (case.gives_user_and_copy left room space) =
-    each-append (StandsOn programs) world.processes (moved_to (entered_by process world.users) (length world.tables) ∷ []) all (h, tt)
+    each-append (StandsOn programs) world.processes (moved_to (entered_by process world.users) (length world.namespaces) ∷ []) all (h, tt)
 oldest_effect programs world pid process effect out all h (case.no_user_left own full) = all
 oldest_effect programs world pid process effect out all h (case.enters left) =
     each-set (StandsOn programs) world.processes (pid - 1) (entered_by process world.users) all h
 oldest_effect programs world pid process effect out all h (case.no_namespace_behind_user left full) = all
 oldest_effect programs world pid process effect out all h (case.enters_and_moves left space) =
-    each-set (StandsOn programs) world.processes (pid - 1) (moved_to (entered_by process world.users) (length world.tables)) all h
+    each-set (StandsOn programs) world.processes (pid - 1) (moved_to (entered_by process world.users) (length world.namespaces)) all h
 oldest_effect programs world pid process effect out all h case.ends =
     each-set (StandsOn programs) world.processes (pid - 1) (ended process) all h
 

@@ -2,7 +2,6 @@
 use Rattle.std.proofs.Common.{◌≡◌, ℕ, zero, suc, ◌<◌, ◌-◌, ◌+◌, ◌==◌, Bool, true, false, cond, List, [], ◌∷◌, length, Option, Some, None}
 use Rattle.std.proofs.Common.{refl, sym, ap, ◌∙◌, subst, arith}
 use Rattle.std.specs.Prelude.{slice_get, option_map}
-use Rattle.kern_mounts.specs.Mounts.{Mounts as Table}
 use Rattle.kernel_model.specs.declared.process.Process.{Process}
 use Rattle.kernel_model.specs.World.{World, of_number, process_of, living_of, if_alive}
 use Rattle.kernel_model.specs.State.{place_of}
@@ -88,14 +87,3 @@ pub some_at : {X : Type 0} (xs : List X) (i : ℕ) → i < length xs → (x : X)
 some_at [] i lt = absurd (omega (arith, lt))
 some_at (y ∷ ys) zero lt = (y, refl)
 some_at (y ∷ ys) (suc i) lt = let less : i < length ys = omega (arith, lt) in some_at ys i less
-
--- the table of a process that is in a namespace
-pub has_table : (tables : List Table) (process : Process) (at : ℕ) (table : Table) → at + 1 ≡ process.namespace
-    → slice_get tables at ≡ Some table → of_number tables process.namespace ≡ Some table
-has_table tables process at table is e =
-    let n : (process.namespace == 0) ≡ false = subst (λ (k : ℕ). (k == 0) ≡ false) is (positive at) in
-    let p : process.namespace - 1 ≡ at = omega (arith, is) in
-    get_number tables process.namespace table n (ap (slice_get tables) p ∙ e)
-  where
-    positive : (k : ℕ) → (k + 1 == 0) ≡ false
-    positive k = grind arith

@@ -6,24 +6,22 @@ use Rattle.std.specs.Int.RustNames.{bit_and}
 use Rattle.std.proofs.lemmas.Nat.{and_assoc}
 use Rattle.bpf_code.specs.declared.decision.Decision.{Decision}
 use Rattle.bpf_code.specs.declared.decision.Decision.TheVariants as decision
-use Rattle.bpf_code.specs.Stack.{decision_on}
-use Rattle.kern_mounts.specs.linux_numbers.Errnos.{eperm, einval, enospc}
+use Rattle.kern_mounts.specs.linux_numbers.Errnos.{eperm, einval}
 use Rattle.kern_mounts.specs.linux_numbers.Capabilities.{cap_sys_admin}
 use Rattle.site_table.specs.cap_sets.Sets.{has}
 use Rattle.kern_creds.specs.declared.creds.Creds.{Creds}
 use Rattle.kernel_model.specs.kern_files.Bits.{has_some}
-use Rattle.kern_mounts.specs.Mounts.{Mounts as Table}
-use Rattle.kern_mounts.specs.Copying.{copied}
 use Rattle.kernel_model.specs.declared.kernel_calls.call.Call.{Call}
 use Rattle.kernel_model.specs.kernel_calls.Operation.{Operation, Does, Fork, Clone, Unshare, asked_of}
+use Rattle.kernel_model.specs.declared.mount_namespace.MountNamespace.{MountNamespace}
 use Rattle.kernel_model.specs.declared.process.Process.{Process}
 use Rattle.kernel_model.specs.declared.reply.Reply.{Reply}
 use Rattle.kernel_model.specs.declared.reply.Reply.TheVariants as reply
 use Rattle.kernel_model.specs.Effects as f
 use Rattle.kernel_model.specs.Effects.{Effect, effect_of, with_admin, clone_effect, unshare_effect, thread_flag, newns, newuser}
 use Rattle.kernel_model.specs.Effects.{other_spaces, no_spaces}
-use Rattle.kernel_model.specs.World.{World, living_of, process_of, of_number, mounts_of, with_copy, moved_to, host_of, caller_of, owner_of}
-use Rattle.kernel_model.specs.World.{owner_or}
+use Rattle.kernel_model.specs.MountNamespaces.{copy_for, namespace_or}
+use Rattle.kernel_model.specs.World.{World, living_of, process_of, of_number, namespace_of, with_copy, moved_to, host_of, caller_of}
 use Rattle.kernel_model.specs.Step.{step, step_by, decided, answered, applied, decision_of}
 use Rattle.kernel_model.specs.StepCases as case
 use Rattle.kernel_model.specs.StepCases.{EffectCase}
@@ -73,7 +71,7 @@ forked world pid process value effect out made is (case.shares room) e =
       parent = earlier_number world.processes pid process process made;
       child = ap (λ (n : ℕ). of_number (world.processes ++ process ∷ []) n) number ∙ last_number world.processes process;
       number = number;
-      tables = refl;
+      namespaces = refl;
     }
 forked world pid process value effect out made is (case.refuses errno) e = cc
 forked world pid process value effect out made is (case.answers other) e = cc
@@ -102,84 +100,78 @@ fork_shares world call process value living asked e =
     let after = forked world call.pid process value (f.Child false) (applied world call.pid process (f.Child false)) (living_made world call.pid process living) refl (effect_case world call.pid process (f.Child false)) (ap (λ (out : Reply × World). out.0) (sym is) ∙ e) in
     subst (λ (out : Reply × World). IsForked world call.pid process value out.1) (sym is) after
 
--- the table that a process's new namespace has
-abbrev copy_of : World → Process → Table
-copy_of world process = copied (not (owner_of world process.namespace == process.user)) (mounts_of world process.namespace)
+-- a process's new namespace
+abbrev copy_of : World → Process → MountNamespace
+copy_of world process = copy_for (namespace_of world process.namespace) process.user
 
-cloned : (world : World) (numbers : length world.owners ≡ length world.tables) (pid : ℕ) (process : Process) (value : ℕ) (effect : Effect)
+fresh : (world : World) (process : Process)
+    → namespace_of (with_copy world process.namespace process.user) (length world.namespaces + 1) ≡ copy_of world process
+fresh world process = ap namespace_or (last_number world.namespaces (copy_of world process))
+
+cloned : (world : World) (pid : ℕ) (process : Process) (value : ℕ) (effect : Effect)
     (out : Reply × World) → process_of world pid ≡ Some process → effect ≡ f.Child true → EffectCase world pid process effect out
     → out.0 ≡ reply.Done value → IsCloned world pid process value out.1
-cloned world numbers pid process value effect out made is (case.gives_copy room space) e =
+cloned world pid process value effect out made is (case.gives_copy room space) e =
     let number : value ≡ length world.processes + 1 = cc in
-    let child = moved_to process (length world.tables) in
+    let child = moved_to process (length world.namespaces) in
     record {
       parent = earlier_number world.processes pid child process made;
       child = ap (λ (n : ℕ). of_number (world.processes ++ child ∷ []) n) number ∙ last_number world.processes child;
       number = number;
-      own_table = own world process;
-      owner = home world process numbers;
-      count = length-push world.tables (copy_of world process);
+      own_table = ap (λ (n : MountNamespace). n.table) (fresh world process);
+      owner = ap (λ (n : MountNamespace). n.owner) (fresh world process);
+      count = length-push world.namespaces (copy_of world process);
     }
-  where
-    own : (world : World) (process : Process) → mounts_of (with_copy world process.namespace process.user) (length world.tables + 1)
-        ≡ copy_of world process
-    own world process = rw (last_number world.tables (copy_of world process)) refl
+cloned world pid process value effect out made is (case.refuses errno) e = cc
+cloned world pid process value effect out made is (case.answers other) e = cc
+cloned world pid process value effect out made is (case.takes_creds creds) e = cc
+cloned world pid process value effect out made is (case.takes_table table) e = cc
+cloned world pid process value effect out made is (case.takes_program program) e = cc
+cloned world pid process value effect out made is (case.no_process_left own full) e = cc
+cloned world pid process value effect out made is (case.shares room) e = cc
+cloned world pid process value effect out made is (case.no_namespace_for_child room full) e = cc
+cloned world pid process value effect out made is (case.no_namespace_left full) e = cc
+cloned world pid process value effect out made is (case.moves space) e = cc
+cloned world pid process value effect out made is (case.no_user_for_child own full) e = cc
+cloned world pid process value effect out made is (case.no_process_for_user own left full) e = cc
+cloned world pid process value effect out made is (case.gives_user left room) e = cc
+cloned world pid process value effect out made is (case.no_namespace_for_user left room full) e = cc
+cloned world pid process value effect out made is (case.gives_user_and_copy left room space) e = cc
+cloned world pid process value effect out made is (case.no_user_left own full) e = cc
+cloned world pid process value effect out made is (case.enters left) e = cc
+cloned world pid process value effect out made is (case.no_namespace_behind_user left full) e = cc
+cloned world pid process value effect out made is (case.enters_and_moves left space) e = cc
+cloned world pid process value effect out made is case.ends e = cc
 
-    home : (world : World) (process : Process) → length world.owners ≡ length world.tables
-        → owner_of (with_copy world process.namespace process.user) (length world.tables + 1) ≡ process.user
-    home world process numbers = ap (λ (n : ℕ). owner_or (of_number (world.owners ++ process.user ∷ []) (n + 1))) (sym numbers)
-        ∙ ap owner_or (last_number world.owners process.user)
-cloned world numbers pid process value effect out made is (case.refuses errno) e = cc
-cloned world numbers pid process value effect out made is (case.answers other) e = cc
-cloned world numbers pid process value effect out made is (case.takes_creds creds) e = cc
-cloned world numbers pid process value effect out made is (case.takes_table table) e = cc
-cloned world numbers pid process value effect out made is (case.takes_program program) e = cc
-cloned world numbers pid process value effect out made is (case.no_process_left own full) e = cc
-cloned world numbers pid process value effect out made is (case.shares room) e = cc
-cloned world numbers pid process value effect out made is (case.no_namespace_for_child room full) e = cc
-cloned world numbers pid process value effect out made is (case.no_namespace_left full) e = cc
-cloned world numbers pid process value effect out made is (case.moves space) e = cc
-cloned world numbers pid process value effect out made is (case.no_user_for_child own full) e = cc
-cloned world numbers pid process value effect out made is (case.no_process_for_user own left full) e = cc
-cloned world numbers pid process value effect out made is (case.gives_user left room) e = cc
-cloned world numbers pid process value effect out made is (case.no_namespace_for_user left room full) e = cc
-cloned world numbers pid process value effect out made is (case.gives_user_and_copy left room space) e = cc
-cloned world numbers pid process value effect out made is (case.no_user_left own full) e = cc
-cloned world numbers pid process value effect out made is (case.enters left) e = cc
-cloned world numbers pid process value effect out made is (case.no_namespace_behind_user left full) e = cc
-cloned world numbers pid process value effect out made is (case.enters_and_moves left space) e = cc
-cloned world numbers pid process value effect out made is case.ends e = cc
-
-unshared : (world : World) (numbers : length world.owners ≡ length world.tables) (pid : ℕ) (process : Process) (value : ℕ)
+unshared : (world : World) (pid : ℕ) (process : Process) (value : ℕ)
     (effect : Effect) (out : Reply × World) → process_of world pid ≡ Some process → effect ≡ f.OwnTable
     → EffectCase world pid process effect out → out.0 ≡ reply.Done value → IsUnshared world pid process out.1
-unshared world numbers pid process value effect out made is (case.moves space) e = record {
-  caller = set_number world.processes pid (moved_to process (length world.tables)) process made;
-  own_table = rw (last_number world.tables (copy_of world process)) refl;
-  owner = ap (λ (n : ℕ). owner_or (of_number (world.owners ++ process.user ∷ []) (n + 1))) (sym numbers)
-      ∙ ap owner_or (last_number world.owners process.user);
-  count = length-push world.tables (copy_of world process);
+unshared world pid process value effect out made is (case.moves space) e = record {
+  caller = set_number world.processes pid (moved_to process (length world.namespaces)) process made;
+  own_table = ap (λ (n : MountNamespace). n.table) (fresh world process);
+  owner = ap (λ (n : MountNamespace). n.owner) (fresh world process);
+  count = length-push world.namespaces (copy_of world process);
 }
-unshared world numbers pid process value effect out made is (case.gives_copy room space) e = cc
-unshared world numbers pid process value effect out made is (case.refuses errno) e = cc
-unshared world numbers pid process value effect out made is (case.answers other) e = cc
-unshared world numbers pid process value effect out made is (case.takes_creds creds) e = cc
-unshared world numbers pid process value effect out made is (case.takes_table table) e = cc
-unshared world numbers pid process value effect out made is (case.takes_program program) e = cc
-unshared world numbers pid process value effect out made is (case.no_process_left own full) e = cc
-unshared world numbers pid process value effect out made is (case.shares room) e = cc
-unshared world numbers pid process value effect out made is (case.no_namespace_for_child room full) e = cc
-unshared world numbers pid process value effect out made is (case.no_namespace_left full) e = cc
-unshared world numbers pid process value effect out made is (case.no_user_for_child own full) e = cc
-unshared world numbers pid process value effect out made is (case.no_process_for_user own left full) e = cc
-unshared world numbers pid process value effect out made is (case.gives_user left room) e = cc
-unshared world numbers pid process value effect out made is (case.no_namespace_for_user left room full) e = cc
-unshared world numbers pid process value effect out made is (case.gives_user_and_copy left room space) e = cc
-unshared world numbers pid process value effect out made is (case.no_user_left own full) e = cc
-unshared world numbers pid process value effect out made is (case.enters left) e = cc
-unshared world numbers pid process value effect out made is (case.no_namespace_behind_user left full) e = cc
-unshared world numbers pid process value effect out made is (case.enters_and_moves left space) e = cc
-unshared world numbers pid process value effect out made is case.ends e = cc
+unshared world pid process value effect out made is (case.gives_copy room space) e = cc
+unshared world pid process value effect out made is (case.refuses errno) e = cc
+unshared world pid process value effect out made is (case.answers other) e = cc
+unshared world pid process value effect out made is (case.takes_creds creds) e = cc
+unshared world pid process value effect out made is (case.takes_table table) e = cc
+unshared world pid process value effect out made is (case.takes_program program) e = cc
+unshared world pid process value effect out made is (case.no_process_left own full) e = cc
+unshared world pid process value effect out made is (case.shares room) e = cc
+unshared world pid process value effect out made is (case.no_namespace_for_child room full) e = cc
+unshared world pid process value effect out made is (case.no_namespace_left full) e = cc
+unshared world pid process value effect out made is (case.no_user_for_child own full) e = cc
+unshared world pid process value effect out made is (case.no_process_for_user own left full) e = cc
+unshared world pid process value effect out made is (case.gives_user left room) e = cc
+unshared world pid process value effect out made is (case.no_namespace_for_user left room full) e = cc
+unshared world pid process value effect out made is (case.gives_user_and_copy left room space) e = cc
+unshared world pid process value effect out made is (case.no_user_left own full) e = cc
+unshared world pid process value effect out made is (case.enters left) e = cc
+unshared world pid process value effect out made is (case.no_namespace_behind_user left full) e = cc
+unshared world pid process value effect out made is (case.enters_and_moves left space) e = cc
+unshared world pid process value effect out made is case.ends e = cc
 
 -- clone and unshare refuse, or make what CLONE_NEWNS asks for: it is one of the six namespaces
 data Asks (effect : Effect) : Effect → Type 0 where
@@ -253,32 +245,32 @@ unshare_asks creds flags none e = outside (has_some no_spaces flags)
     outside true = refuses einval
     outside false = user (has_some newuser flags) none
 
-cloned_by : (world : World) (numbers : length world.owners ≡ length world.tables) (pid : ℕ) (process : Process) (value : ℕ)
+cloned_by : (world : World) (pid : ℕ) (process : Process) (value : ℕ)
     (effect : Effect) → process_of world pid ≡ Some process → Asks (f.Child true) effect
     → (applied world pid process effect).0 ≡ reply.Done value → IsCloned world pid process value (applied world pid process effect).1
-cloned_by world numbers pid process value effect made (refuses errno) e = cc
-cloned_by world numbers pid process value effect made asks e =
-    cloned world numbers pid process value (f.Child true) (applied world pid process (f.Child true)) made refl
+cloned_by world pid process value effect made (refuses errno) e = cc
+cloned_by world pid process value effect made asks e =
+    cloned world pid process value (f.Child true) (applied world pid process (f.Child true)) made refl
     (effect_case world pid process (f.Child true)) e
 
 pub clone_gives_a_copy : CloneGivesACopy
-clone_gives_a_copy world call process flags value numbers living asked none own e =
+clone_gives_a_copy world call process flags value living asked none own e =
     let is = done_is world call process (Clone flags) value living asked e in
     subst (λ (out : Reply × World). IsCloned world call.pid process value out.1) (sym is)
-    (cloned_by world numbers call.pid process value (clone_effect process.creds flags) (living_made world call.pid process living)
+    (cloned_by world call.pid process value (clone_effect process.creds flags) (living_made world call.pid process living)
     (clone_asks process.creds flags none own) (ap (λ (out : Reply × World). out.0) (sym is) ∙ e))
 
-unshared_by : (world : World) (numbers : length world.owners ≡ length world.tables) (pid : ℕ) (process : Process) (value : ℕ)
+unshared_by : (world : World) (pid : ℕ) (process : Process) (value : ℕ)
     (effect : Effect) → process_of world pid ≡ Some process → Asks f.OwnTable effect
     → (applied world pid process effect).0 ≡ reply.Done value → IsUnshared world pid process (applied world pid process effect).1
-unshared_by world numbers pid process value effect made (refuses errno) e = cc
-unshared_by world numbers pid process value effect made asks e =
-    unshared world numbers pid process value f.OwnTable (applied world pid process f.OwnTable) made refl
+unshared_by world pid process value effect made (refuses errno) e = cc
+unshared_by world pid process value effect made asks e =
+    unshared world pid process value f.OwnTable (applied world pid process f.OwnTable) made refl
     (effect_case world pid process f.OwnTable) e
 
 pub unshare_gives_a_copy : UnshareGivesACopy
-unshare_gives_a_copy world call process flags value numbers living asked none own e =
+unshare_gives_a_copy world call process flags value living asked none own e =
     let is = done_is world call process (Unshare flags) value living asked e in
     subst (λ (out : Reply × World). IsUnshared world call.pid process out.1) (sym is)
-    (unshared_by world numbers call.pid process value (unshare_effect process.creds flags) (living_made world call.pid process living)
+    (unshared_by world call.pid process value (unshare_effect process.creds flags) (living_made world call.pid process living)
     (unshare_asks process.creds flags none own) (ap (λ (out : Reply × World). out.0) (sym is) ∙ e))

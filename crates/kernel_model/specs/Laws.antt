@@ -47,8 +47,8 @@ ProgramsStay = (programs : List (List Insn)) (world : World) → OfEach (StandsO
 
 -- if a world has the properties of every world, it still has them after any calls
 abbrev pub WorldsStay : Type 0
-WorldsStay = (world : World) → IsKernel world.processes world.tables → (calls : List Call)
-    → IsKernel (run world calls).processes (run world calls).tables
+WorldsStay = (world : World) → IsKernel world.processes world.namespaces → (calls : List Call)
+    → IsKernel (run world calls).processes (run world calls).namespaces
 
 -- the kernel's tables of calls and files stay
 abbrev pub ToldStays : Type 0
@@ -59,7 +59,7 @@ pub record IsForked (world : World) (pid : ℕ) (process : Process) (value : ℕ
   pub parent : process_of after pid ≡ Some process
   pub child : process_of after value ≡ Some process
   pub number : value ≡ length world.processes + 1
-  pub tables : after.tables ≡ world.tables
+  pub namespaces : after.namespaces ≡ world.namespaces
 
 abbrev pub ForkShares : Type 0
 ForkShares = (world : World) (call : Call) (process : Process) (value : ℕ)
@@ -70,15 +70,15 @@ ForkShares = (world : World) (call : Call) (process : Process) (value : ℕ)
 -- new table is a copy of the parent's; the copy is locked if the parent's mount namespace belongs to another user namespace
 pub record IsCloned (world : World) (pid : ℕ) (process : Process) (value : ℕ) (after : World) : Type 0 where
   pub parent : process_of after pid ≡ Some process
-  pub child : process_of after value ≡ Some (record process { namespace = length world.tables + 1 })
+  pub child : process_of after value ≡ Some (record process { namespace = length world.namespaces + 1 })
   pub number : value ≡ length world.processes + 1
-  pub own_table : mounts_of after (length world.tables + 1) ≡ copied (not (owner_of world process.namespace == process.user))
+  pub own_table : mounts_of after (length world.namespaces + 1) ≡ copied (not (owner_of world process.namespace == process.user))
       (mounts_of world process.namespace)
-  pub owner : owner_of after (length world.tables + 1) ≡ process.user
-  pub count : length after.tables ≡ length world.tables + 1
+  pub owner : owner_of after (length world.namespaces + 1) ≡ process.user
+  pub count : length after.namespaces ≡ length world.namespaces + 1
 
 abbrev pub CloneGivesACopy : Type 0
-CloneGivesACopy = (world : World) (call : Call) (process : Process) (flags value : ℕ) → length world.owners ≡ length world.tables
+CloneGivesACopy = (world : World) (call : Call) (process : Process) (flags value : ℕ)
     → living_of world call.pid ≡ Some process → asked_of world.calls call ≡ Does (Clone flags) → has_some newuser flags ≡ false
     → has_some newns flags ≡ true → (step world call).0 ≡ Done value
     → IsCloned world call.pid process value (step world call).1
@@ -86,14 +86,14 @@ CloneGivesACopy = (world : World) (call : Call) (process : Process) (flags value
 -- after unshare(2) with CLONE_NEWNS alone, the caller is unchanged but is in a new mount namespace, whose table is as after
 -- clone(2)
 pub record IsUnshared (world : World) (pid : ℕ) (process : Process) (after : World) : Type 0 where
-  pub caller : process_of after pid ≡ Some (record process { namespace = length world.tables + 1 })
-  pub own_table : mounts_of after (length world.tables + 1) ≡ copied (not (owner_of world process.namespace == process.user))
+  pub caller : process_of after pid ≡ Some (record process { namespace = length world.namespaces + 1 })
+  pub own_table : mounts_of after (length world.namespaces + 1) ≡ copied (not (owner_of world process.namespace == process.user))
       (mounts_of world process.namespace)
-  pub owner : owner_of after (length world.tables + 1) ≡ process.user
-  pub count : length after.tables ≡ length world.tables + 1
+  pub owner : owner_of after (length world.namespaces + 1) ≡ process.user
+  pub count : length after.namespaces ≡ length world.namespaces + 1
 
 abbrev pub UnshareGivesACopy : Type 0
-UnshareGivesACopy = (world : World) (call : Call) (process : Process) (flags value : ℕ) → length world.owners ≡ length world.tables
+UnshareGivesACopy = (world : World) (call : Call) (process : Process) (flags value : ℕ)
     → living_of world call.pid ≡ Some process → asked_of world.calls call ≡ Does (Unshare flags) → has_some newuser flags ≡ false
     → has_some newns flags ≡ true → (step world call).0 ≡ Done value
     → IsUnshared world call.pid process (step world call).1

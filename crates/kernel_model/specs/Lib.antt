@@ -1,4 +1,5 @@
 pub mod Effects
+pub mod MountNamespaces
 pub mod World
 pub mod Step
 pub mod StepCases

@@ -36,7 +36,7 @@ makes_one user processes namespaces (Push program) = false
 makes_one user processes namespaces End = false
 
 abbrev pub takes_operation : World → Process → Operation → Bool
-takes_operation world process operation = asks_for_room operation || makes_one (has_user_left world) (length world.processes) (length world.tables)
+takes_operation world process operation = asks_for_room operation || makes_one (has_user_left world) (length world.processes) (length world.namespaces)
     (effect_of (host_of world) (caller_of world process) operation)
 
 abbrev pub takes_asked : World → Process → Asked → Bool

@@ -1,27 +1,28 @@
--- The processes and mount tables of a world, without the kernel's tables of calls and files.
-use Rattle.std.specs.Prelude.{◌≡◌, ℕ, ◌-◌, ◌==◌, ◌<◌, not, if◌then◌else◌, List, slice_get, Option, Some, None, option_map}
+-- The processes and mount namespaces of a world, without the kernel's tables of calls and files.
+use Rattle.std.specs.Prelude.{◌≡◌, ℕ, ◌-◌, ◌==◌, ◌<◌, if◌then◌else◌, List, [], ◌∷◌, ◌++◌, slice_get, Option, Some, None, option_map}
 use Rattle.call_table.specs.Table as calls
 use Rattle.site_table.specs.Table.{Site, row_at}
-use Rattle.kern_mounts.specs.Copying.{copied}
-use Rattle.kern_mounts.specs.Mounts.{Mounts as Table}
+use Rattle.kern_mounts.specs.declared.step.MountStep.{MountStep}
+use Rattle.kernel_model.specs.declared.mount_namespace.MountNamespace.{MountNamespace}
 use Rattle.kernel_model.specs.declared.process.Process.{Process}
 use Rattle.kernel_model.specs.declared.reply.Reply.{Reply}
 use Rattle.kernel_model.specs.declared.told.Told.{Told}
 use Rattle.kernel_model.specs.kernel_calls.Operation.{Operation}
 use Rattle.kernel_model.specs.Effects.{Effect, Host, effect_of}
-use Rattle.kernel_model.specs.World.{World, if_alive, has_mdwe, host_of, caller_of}
+use Rattle.kernel_model.specs.MountNamespaces.{copy_for, namespace_or, with_other_table}
+use Rattle.kernel_model.specs.MountStep.{with_step}
+use Rattle.kernel_model.specs.World.{World, of_number, put_number, if_alive, has_mdwe, host_of, caller_of}
 use Rattle.kernel_model.specs.Step.{applied}
 
 -- number n is at place n - 1
 pub record State : Type 0 where
   pub processes : List Process
-  pub tables : List Table
-  pub owners : List ℕ
+  pub namespaces : List MountNamespace
   pub users : ℕ
 
 abbrev pub world_of : calls.Table → Site → State → World
 world_of calls site state =
-    record { calls = calls; site = site; processes = state.processes; tables = state.tables; owners = state.owners; users = state.users }
+    record { calls = calls; site = site; processes = state.processes; namespaces = state.namespaces; users = state.users }
 
 abbrev pub world_with : Told → State → World
 world_with told state = world_of told.calls.now told.site.now state
@@ -59,7 +60,17 @@ AppliesAt site old place effect reply new = (calls : calls.Table)
 abbrev pub AppliesUser : State → ℕ → Effect → Reply → State → Type 0
 AppliesUser old place effect reply new = (site : Site) → old.users < site.user_namespaces → AppliesAt site old place effect reply new
 
--- a copy of the table at a place for a user namespace
-abbrev pub IsCopyFor : State → ℕ → ℕ → Table → Type 0
-IsCopyFor state at user table = (own : Table) (owner : ℕ) → slice_get state.tables at ≡ Some own → slice_get state.owners at ≡ Some owner
-    → table ≡ copied (not (owner == user)) own
+-- one more mount namespace: the copy of the one at a place for a user namespace
+abbrev pub AddsCopy : List MountNamespace → ℕ → ℕ → List MountNamespace → Type 0
+AddsCopy old at user new = (own : MountNamespace) → slice_get old at ≡ Some own → new ≡ old ++ copy_for own user ∷ []
+
+-- the mount namespace with this number
+abbrev pub namespace_in : State → ℕ → MountNamespace
+namespace_in state number = namespace_or (of_number state.namespaces number)
+
+-- the state after a mount step on the table of the mount namespace with this number
+abbrev pub stepped_in : State → ℕ → MountStep → State
+stepped_in state number step = record state {
+  namespaces = put_number state.namespaces number
+      (with_other_table (namespace_in state number) (with_step (namespace_in state number).table step));
+}

@@ -29,8 +29,8 @@ most_namespaces = 64
 abbrev pub child_in : World → World → Process → Bool → Reply × World
 child_in old world child false = (Done (length world.processes + 1), with_child world child)
 child_in old world child true =
-    if nat_lt (length world.tables) most_namespaces
-    then (Done (length world.processes + 1), with_child (with_copy world child.namespace child.user) (moved_to child (length world.tables)))
+    if nat_lt (length world.namespaces) most_namespaces
+    then (Done (length world.processes + 1), with_child (with_copy world child.namespace child.user) (moved_to child (length world.namespaces)))
     else (Refused enospc, old)
 
 abbrev pub child_of : World → Process → Bool → Reply × World
@@ -40,8 +40,8 @@ child_of world process own = child_in world world process own
 abbrev pub moved_in : World → World → ℕ → Process → Bool → Reply × World
 moved_in old world pid process false = (Done 0, with_process world pid process)
 moved_in old world pid process true =
-    if nat_lt (length world.tables) most_namespaces
-    then (Done 0, with_process (with_copy world process.namespace process.user) pid (moved_to process (length world.tables)))
+    if nat_lt (length world.namespaces) most_namespaces
+    then (Done 0, with_process (with_copy world process.namespace process.user) pid (moved_to process (length world.namespaces)))
     else (Refused enospc, old)
 
 -- one more user namespace may be made, user_namespaces(7)

@@ -34,12 +34,12 @@ pub data EffectCase (world : World) (pid : ℕ) (process : Process) : Effect →
       → EffectCase world pid process (Child own) (Refused eagain, world)
   shares : length world.processes < most_processes → EffectCase world pid process (Child false)
       (Done (length world.processes + 1), with_child world process)
-  no_namespace_for_child : length world.processes < most_processes → most_namespaces ≤ length world.tables
+  no_namespace_for_child : length world.processes < most_processes → most_namespaces ≤ length world.namespaces
       → EffectCase world pid process (Child true) (Refused enospc, world)
-  gives_copy : length world.processes < most_processes → length world.tables < most_namespaces → EffectCase world pid process (Child true) (Done (length world.processes + 1), with_child (with_copy world process.namespace process.user) (moved_to process (length world.tables)))
-  no_namespace_left : most_namespaces ≤ length world.tables → EffectCase world pid process OwnTable (Refused enospc, world)
-  moves : length world.tables < most_namespaces → EffectCase world pid process OwnTable
-      (Done 0, with_process (with_copy world process.namespace process.user) pid (moved_to process (length world.tables)))
+  gives_copy : length world.processes < most_processes → length world.namespaces < most_namespaces → EffectCase world pid process (Child true) (Done (length world.processes + 1), with_child (with_copy world process.namespace process.user) (moved_to process (length world.namespaces)))
+  no_namespace_left : most_namespaces ≤ length world.namespaces → EffectCase world pid process OwnTable (Refused enospc, world)
+  moves : length world.namespaces < most_namespaces → EffectCase world pid process OwnTable
+      (Done 0, with_process (with_copy world process.namespace process.user) pid (moved_to process (length world.namespaces)))
   no_user_for_child : (own : Bool) → world.site.user_namespaces ≤ world.users
       → EffectCase world pid process (UserChild own) (Refused enospc, world)
   no_process_for_user : (own : Bool) → world.users < world.site.user_namespaces → most_processes ≤ length world.processes
@@ -48,19 +48,19 @@ pub data EffectCase (world : World) (pid : ℕ) (process : Process) : Effect →
       → EffectCase world pid process (UserChild false)
       (Done (length world.processes + 1), with_child (with_user world) (entered_by process world.users))
   no_namespace_for_user : world.users < world.site.user_namespaces → length world.processes < most_processes
-      → most_namespaces ≤ length world.tables
+      → most_namespaces ≤ length world.namespaces
       → EffectCase world pid process (UserChild true) (Refused enospc, world)
   gives_user_and_copy : world.users < world.site.user_namespaces → length world.processes < most_processes
-      → length world.tables < most_namespaces
-      → EffectCase world pid process (UserChild true) (Done (length world.processes + 1), with_child (with_copy (with_user world) process.namespace (world.users + 2)) (moved_to (entered_by process world.users) (length world.tables)))
+      → length world.namespaces < most_namespaces
+      → EffectCase world pid process (UserChild true) (Done (length world.processes + 1), with_child (with_copy (with_user world) process.namespace (world.users + 2)) (moved_to (entered_by process world.users) (length world.namespaces)))
   no_user_left : (own : Bool) → world.site.user_namespaces ≤ world.users
       → EffectCase world pid process (OwnUser own) (Refused enospc, world)
   enters : world.users < world.site.user_namespaces → EffectCase world pid process (OwnUser false)
       (Done 0, with_process (with_user world) pid (entered_by process world.users))
-  no_namespace_behind_user : world.users < world.site.user_namespaces → most_namespaces ≤ length world.tables
+  no_namespace_behind_user : world.users < world.site.user_namespaces → most_namespaces ≤ length world.namespaces
       → EffectCase world pid process (OwnUser true) (Refused enospc, world)
-  enters_and_moves : world.users < world.site.user_namespaces → length world.tables < most_namespaces
-      → EffectCase world pid process (OwnUser true) (Done 0, with_process (with_copy (with_user world) process.namespace (world.users + 2)) pid (moved_to (entered_by process world.users) (length world.tables)))
+  enters_and_moves : world.users < world.site.user_namespaces → length world.namespaces < most_namespaces
+      → EffectCase world pid process (OwnUser true) (Done 0, with_process (with_copy (with_user world) process.namespace (world.users + 2)) pid (moved_to (entered_by process world.users) (length world.namespaces)))
   ends : EffectCase world pid process End (Done 0, with_process world pid (ended process))
 
 -- the cases of a call. No living process makes it. The table lacks its ABI (ENOSYS), or the caller's stack refuses it. The

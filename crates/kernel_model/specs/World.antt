@@ -1,24 +1,24 @@
--- A world of the kernel: processes that share mount tables.
+-- A world of the kernel: processes that share mount namespaces.
 use Rattle.std.specs.Prelude.{ℕ, ◌+◌, ◌-◌, ◌==◌, not, Bool, true, false, List, [], ◌∷◌, ◌++◌, slice_get, slice_set, Option, Some, None, is_some}
 use Rattle.std.specs.Prelude.{if◌then◌else◌}
 use Rattle.call_table.specs.Table as calls
 use Rattle.site_table.specs.Table.{Site, row_at}
 use Rattle.kern_creds.specs.Start as creds
 use Rattle.kern_creds.specs.Enter.{entered}
-use Rattle.kern_mounts.specs.Copying.{copied}
 use Rattle.kern_mounts.specs.Split as entries
-use Rattle.kern_mounts.specs.Mounts.{Mounts as Table, steps_of, first_mounts}
+use Rattle.kern_mounts.specs.Mounts.{Mounts as Table, steps_of}
+use Rattle.kernel_model.specs.declared.mount_namespace.MountNamespace.{MountNamespace}
 use Rattle.kernel_model.specs.declared.process.Process.{Process}
 use Rattle.kernel_model.specs.Effects.{Caller, Host}
+use Rattle.kernel_model.specs.MountNamespaces.{copy_for, first_namespace, namespace_or, with_other_table}
 
--- the kernel's tables of calls and files, and the processes and mount tables; number n is at place n - 1
+-- the kernel's tables of calls and files, and the processes and mount namespaces; number n is at place n - 1
 pub record World : Type 0 where
   pub calls : calls.Table
   pub site : Site
   pub processes : List Process
-  pub tables : List Table
-  -- the user namespace of each mount namespace, and the number of user namespaces besides the first
-  pub owners : List ℕ
+  pub namespaces : List MountNamespace
+  -- the number of user namespaces besides the first
   pub users : ℕ
 
 -- elements numbered from 1
@@ -40,13 +40,13 @@ if_alive (Some process) = if process.alive then Some process else None
 abbrev pub living_of : World → ℕ → Option Process
 living_of world pid = if_alive (process_of world pid)
 
-abbrev pub table_or : Option Table → Table
-table_or None = []
-table_or (Some table) = table
+-- the mount namespace with this number, mount_namespaces(7)
+abbrev pub namespace_of : World → ℕ → MountNamespace
+namespace_of world namespace = namespace_or (of_number world.namespaces namespace)
 
--- the mounts of a namespace, mount_namespaces(7)
+-- its mounts
 abbrev pub mounts_of : World → ℕ → Table
-mounts_of world namespace = table_or (of_number world.tables namespace)
+mounts_of world namespace = (namespace_of world namespace).table
 
 -- their entries, on which paths are looked up
 abbrev pub table_of : World → ℕ → entries.Table
@@ -56,7 +56,9 @@ abbrev pub with_process : World → ℕ → Process → World
 with_process world pid process = record world { processes = put_number world.processes pid process }
 
 abbrev pub with_table : World → ℕ → Table → World
-with_table world namespace table = record world { tables = put_number world.tables namespace table }
+with_table world namespace table = record world {
+  namespaces = put_number world.namespaces namespace (with_other_table (namespace_of world namespace) table);
+}
 
 -- the process, no longer living
 abbrev pub ended : Process → Process
@@ -71,12 +73,8 @@ abbrev pub host_of : World → Host
 host_of world = record { rows = row_at world.site.rows; families = world.calls.families; mdwe = has_mdwe world.site }
 
 -- the user namespace that owns a mount namespace
-abbrev pub owner_or : Option ℕ → ℕ
-owner_or None = 0
-owner_or (Some user) = user
-
 abbrev pub owner_of : World → ℕ → ℕ
-owner_of world namespace = owner_or (of_number world.owners namespace)
+owner_of world namespace = (namespace_of world namespace).owner
 
 -- the process's user namespace is not the first
 abbrev pub is_newer : Process → Bool
@@ -96,12 +94,10 @@ caller_of world process = record {
 abbrev pub with_child : World → Process → World
 with_child world child = record world { processes = world.processes ++ child ∷ [] }
 
--- the world with one more mount namespace, which belongs to this user namespace; its table is a copy of another's
+-- the world with one more mount namespace: the copy of another one for this user namespace
 abbrev pub with_copy : World → ℕ → ℕ → World
-with_copy world namespace user = record world {
-  tables = world.tables ++ copied (not (owner_of world namespace == user)) (mounts_of world namespace) ∷ [];
-  owners = world.owners ++ user ∷ [];
-}
+with_copy world namespace user =
+    record world { namespaces = world.namespaces ++ copy_for (namespace_of world namespace) user ∷ [] }
 
 -- the world with one more user namespace
 abbrev pub with_user : World → World
@@ -121,4 +117,4 @@ first_process = record { creds = creds.start; stack = []; namespace = 1; user = 
 
 abbrev pub start_world : calls.Table → Site → World
 start_world calls site = record
-    { calls = calls; site = site; processes = first_process ∷ []; tables = first_mounts ∷ []; owners = 1 ∷ []; users = 0 }
+    { calls = calls; site = site; processes = first_process ∷ []; namespaces = first_namespace ∷ []; users = 0 }

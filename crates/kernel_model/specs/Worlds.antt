@@ -4,6 +4,7 @@ use Rattle.std.specs.List.{AllByRecursion}
 use Rattle.site_table.specs.abs_path.Paths.{is_root}
 use Rattle.kern_mounts.specs.Split as entries
 use Rattle.kern_mounts.specs.Mounts.{Mounts as Table, steps_of}
+use Rattle.kernel_model.specs.declared.mount_namespace.MountNamespace.{MountNamespace}
 use Rattle.kernel_model.specs.declared.process.Process.{Process}
 use Rattle.kernel_model.specs.Step.{most_processes, most_namespaces}
 
@@ -21,8 +22,12 @@ AreRooted (first ∷ table) = (first.place ≡ []) × AllByRecursion (λ entry. 
 abbrev pub IsRooted : Table → Type 0
 IsRooted mounts = AreRooted (steps_of mounts)
 
-pub record IsKernel (processes : List Process) (tables : List Table) : Type 0 where
+-- the mount namespace's table has its first mount at `/`, and no other there
+abbrev pub HasRoot : MountNamespace → Type 0
+HasRoot namespace = IsRooted namespace.table
+
+pub record IsKernel (processes : List Process) (namespaces : List MountNamespace) : Type 0 where
   pub few_processes : length processes ≤ most_processes
-  pub few_namespaces : length tables ≤ most_namespaces
-  pub spaces : AllByRecursion (HasSpace (length tables)) processes
-  pub roots : AllByRecursion IsRooted tables
+  pub few_namespaces : length namespaces ≤ most_namespaces
+  pub spaces : AllByRecursion (HasSpace (length namespaces)) processes
+  pub roots : AllByRecursion HasRoot namespaces

@@ -27,8 +27,7 @@ impl State {
         operation: &Operation<'_>,
     ) -> Result<Outcome, AllocError>
         requires there { place < length self.old.processes }
-        requires spaces { AllByRecursion (HasSpace (length self.old.tables)) self.old.processes }
-        requires owned { length self.old.owners ≡ length self.old.tables }
+        requires spaces { AllByRecursion (HasSpace (length self.old.namespaces)) self.old.processes }
         ensures performs { IfOk result (λ outcome. AtPlace self.old place (λ pid process.
             Left (world_with told.now self.old) pid process outcome (world_with told.now self.new)
             (effect_in (world_with told.now self.old) process (seen operation.now)))) }
@@ -36,13 +35,13 @@ impl State {
         ensures needs_no_memory { asks_for_room (seen operation.now) ≡ false → IsOk result }
         ensures stays { OnErr result (self.new ≡ self.old) }
     {
-        let at = self.table_place(place);
-        let owns = self.owners[at] == self.processes[place].user;
+        let at = self.namespace_place(place);
+        let owns = self.namespaces[at].owner == self.processes[place].user;
         perform(
             alloc,
             told,
             &mut self.processes[place],
-            &mut self.tables[at],
+            &mut self.namespaces[at].table,
             owns,
             operation,
         )
@@ -57,8 +56,7 @@ impl State {
         operation: &Operation<'_>,
     ) -> Result<Reply, AllocError>
         requires there { place < length self.old.processes }
-        requires spaces { AllByRecursion (HasSpace (length self.old.tables)) self.old.processes }
-        requires owned { length self.old.owners ≡ length self.old.tables }
+        requires spaces { AllByRecursion (HasSpace (length self.old.namespaces)) self.old.processes }
         ensures performs { IfOk result (λ reply. AtPlace self.old place (λ pid process.
             (reply, world_with told.now self.new) ≡ applied (world_with told.now self.old) pid process
             (effect_in (world_with told.now self.old) process (seen operation.now)))) }

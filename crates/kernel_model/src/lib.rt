@@ -17,6 +17,7 @@ pub mod laws;
 mod looks;
 mod makers;
 mod memory;
+mod mount_namespace;
 mod mounts;
 mod outcome;
 mod perform;
@@ -38,6 +39,7 @@ pub use call_table::{
     read_u64, words,
 };
 pub use kern_mounts::{Flags, MountStep, MountTable, What};
+pub use mount_namespace::MountNamespace;
 pub use process::Process;
 pub use reply::Reply;
 pub use site_table::{CapSet, Group, Row, RowKind, SiteTable, User};

@@ -1,27 +1,25 @@
-//! The processes and mount tables of a world. They are numbered from 1.
+//! The processes and mount namespaces of a world. They are numbered from 1.
 
 ghost use Rattle.std.specs.Prelude.{◌≡◌, ◌∷◌, [], ◌<◌, ◌-◌, ◌+◌, length, Some, IfOk, IfSome, option_map};
 ghost use Rattle.std.specs.List.{AllByRecursion};
 ghost use Rattle.bpf_code.specs.Stack.{decision_on};
 ghost use Rattle.bpf_code.specs.declared.machine.CallData.{CallData};
-ghost use Rattle.kern_mounts.specs.Mounts.{first_mounts};
+ghost use Rattle.kernel_model.specs.MountNamespaces.{first_namespace};
 ghost use Rattle.kernel_model.specs.State.{State, place_of, AtPlace};
 ghost use Rattle.kernel_model.specs.World.{of_number, first_process, put_number, ended};
 ghost use Rattle.kernel_model.specs.Worlds.{HasSpace};
 
+use crate::mount_namespace::MountNamespace;
 use crate::process::Process;
 use bpf_code::{CallData, Decision};
-use kern_mounts::MountTable;
 use std::alloc::{AllocError, Global};
 use std::marker::Model;
 
-/// The processes and the mount tables.
+/// The processes and the mount namespaces.
 #[derive(Drop)]
 pub(crate) struct State {
     pub(crate) processes: Vec<Process>,
-    pub(crate) tables: Vec<MountTable>,
-    /// The user namespace of each mount namespace.
-    pub(crate) owners: Vec<u32>,
+    pub(crate) namespaces: Vec<MountNamespace>,
     /// The number of user namespaces besides the first.
     pub(crate) users: u32,
 }
@@ -31,24 +29,21 @@ impl Model for State {
 
     ghost Value = { State };
 
-    ghost view = { λ state. record { processes = state.processes.items; tables = state.tables.items; owners = state.owners.items; users = state.users } };
+    ghost view = { λ state. record { processes = state.processes.items; namespaces = state.namespaces.items; users = state.users } };
 }
 
 impl State {
-    /// Makes the first process and the host's table.
+    /// Makes the first process and the first mount namespace.
     pub fn first(alloc: Global) -> Result<State, AllocError>
-        ensures one_process { IfOk result (λ state. state ≡ record { processes = first_process ∷ []; tables = first_mounts ∷ []; owners = 1 ∷ []; users = 0 }) }
+        ensures one_process { IfOk result (λ state. state ≡ record { processes = first_process ∷ []; namespaces = first_namespace ∷ []; users = 0 }) }
     {
         let mut processes = Vec::new(alloc);
         processes.push(Process::first(alloc))?;
-        let mut tables = Vec::new(alloc);
-        tables.push(MountTable::new(alloc)?)?;
-        let mut owners = Vec::new(alloc);
-        owners.push(1)?;
+        let mut namespaces = Vec::new(alloc);
+        namespaces.push(MountNamespace::first(alloc)?)?;
         Ok(State {
             processes,
-            tables,
-            owners,
+            namespaces,
             users: 0,
         })
     }
@@ -63,23 +58,13 @@ impl State {
         }
     }
 
-    /// Returns the table of the mount namespace with this number.
-    pub fn table(&self, namespace: u32) -> Option<&MountTable>
-        ensures by_number { option_map (λ table. table.now) result ≡ of_number self.now.tables namespace }
+    /// Returns the mount namespace with this number.
+    pub fn namespace(&self, number: u32) -> Option<&MountNamespace>
+        ensures by_number { option_map (λ namespace. namespace.now) result ≡ of_number self.now.namespaces number }
     {
-        match namespace.checked_sub(1) {
+        match number.checked_sub(1) {
             None => None,
-            Some(place) => self.tables.get(place as usize),
-        }
-    }
-
-    /// Returns the user namespace of the mount namespace with this number.
-    pub fn owner(&self, namespace: u32) -> Option<u32>
-        ensures by_number { result ≡ of_number self.now.owners namespace }
-    {
-        match namespace.checked_sub(1) {
-            None => None,
-            Some(place) => self.owners.get(place as usize).copied(),
+            Some(place) => self.namespaces.get(place as usize),
         }
     }
 
@@ -117,11 +102,11 @@ impl State {
         self.processes[place].alive = false;
     }
 
-    /// Returns the place of the table of the process at this place.
-    pub fn table_place(&self, place: usize) -> usize
+    /// Returns the place of the mount namespace of the process at this place.
+    pub fn namespace_place(&self, place: usize) -> usize
         requires there { place < length self.now.processes }
-        requires spaces { AllByRecursion (HasSpace (length self.now.tables)) self.now.processes }
-        ensures there { result < length self.now.tables }
+        requires spaces { AllByRecursion (HasSpace (length self.now.namespaces)) self.now.processes }
+        ensures there { result < length self.now.namespaces }
         ensures of_the_namespace { AtPlace self.now place (λ pid process. result + 1 ≡ process.namespace) }
     {
         self.processes[place].namespace as usize - 1

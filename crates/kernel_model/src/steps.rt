@@ -5,9 +5,8 @@ ghost use Rattle.std.specs.List.{AllByRecursion};
 ghost use Rattle.site_table.specs.abs_path.Paths.{is_root};
 ghost use Rattle.kern_mounts.specs.linux_numbers.Limits.{mount_max};
 ghost use Rattle.kernel_model.specs.MountStep.{with_step};
-ghost use Rattle.kernel_model.specs.State.{AtPlace};
-ghost use Rattle.kernel_model.specs.World.{of_number, put_number, table_or};
-ghost use Rattle.kernel_model.specs.Worlds.{HasSpace, IsRooted};
+ghost use Rattle.kernel_model.specs.State.{AtPlace, namespace_in, stepped_in};
+ghost use Rattle.kernel_model.specs.Worlds.{HasRoot, HasSpace, IsRooted};
 
 use crate::state::State;
 use kern_mounts::{MountError, MountStep, MountTable};
@@ -46,14 +45,14 @@ impl State {
         step: &MountStep,
     ) -> Result<(), AllocError>
         requires there { place < length self.old.processes }
-        requires spaces { AllByRecursion (HasSpace (length self.old.tables)) self.old.processes }
-        requires roots { AllByRecursion IsRooted self.old.tables }
-        requires room { AtPlace self.old place (λ pid process. length (table_or (of_number self.old.tables process.namespace)) < mount_max) }
-        ensures steps { OnOk result (AtPlace self.old place (λ pid process. self.new ≡ record self.old { tables = put_number self.old.tables process.namespace (with_step (table_or (of_number self.old.tables process.namespace)) step.now) })) }
+        requires spaces { AllByRecursion (HasSpace (length self.old.namespaces)) self.old.processes }
+        requires roots { AllByRecursion HasRoot self.old.namespaces }
+        requires room { AtPlace self.old place (λ pid process. length (namespace_in self.old process.namespace).table < mount_max) }
+        ensures steps { OnOk result (AtPlace self.old place (λ pid process. self.new ≡ stepped_in self.old process.namespace step.now)) }
         ensures needs_no_memory_at_the_root { is_root step.now.place ≡ true → IsOk result }
         ensures stays { OnErr result (self.new ≡ self.old) }
     {
-        let at = self.table_place(place);
-        mount_step(alloc, &mut self.tables[at], step)
+        let at = self.namespace_place(place);
+        mount_step(alloc, &mut self.namespaces[at].table, step)
     }
 }

@@ -21,10 +21,10 @@ use site_table::SiteTable;
 use std::alloc::{AllocError, Global};
 use std::marker::Model;
 
-/// Processes that share mount tables, and the kernel's tables of calls and files.
+/// Processes that share mount namespaces, and the kernel's tables of calls and files.
 ///
 /// Contracts see a world as its table of calls, its site, and the lists of its processes (at most 1,024) and of its mount
-/// tables (at most 64).
+/// namespaces (at most 64).
 #[derive(Drop)]
 pub struct World<'a> {
     told: Told<'a>,
@@ -33,7 +33,7 @@ pub struct World<'a> {
 }
 
 impl<'a> Model for World<'a> {
-    ghost use Rattle.std.specs.Prelude.{◌≡◌, length};
+    ghost use Rattle.std.specs.Prelude.{◌≡◌};
     ghost use Rattle.kernel_model.specs.kernel_calls.Rules.{rules_of};
     ghost use Rattle.kernel_model.specs.State.{world_of};
     ghost use Rattle.kernel_model.specs.World.{World};
@@ -43,7 +43,7 @@ impl<'a> Model for World<'a> {
 
     ghost view = { λ world. world_of world.told.calls.now world.told.site.now world.state };
 
-    ghost invariant = { λ world. (world.rules ≡ rules_of world.told.calls.now) × IsKernel world.state.processes world.state.tables × (length world.state.owners ≡ length world.state.tables) };
+    ghost invariant = { λ world. (world.rules ≡ rules_of world.told.calls.now) × IsKernel world.state.processes world.state.namespaces };
 }
 
 impl<'a> World<'a> {
@@ -132,22 +132,28 @@ impl<'a> World<'a> {
 
     /// Returns the mount table of the mount namespace with this number.
     pub fn table(&self, namespace: u32) -> Option<&MountTable>
-        ensures table_of_the_number { option_map (λ table. table.now) result ≡ of_number self.now.tables namespace }
+        ensures table_of_the_number { option_map (λ table. table.now) result ≡ option_map (λ it. it.table) (of_number self.now.namespaces namespace) }
     {
-        self.state.table(namespace)
+        match self.state.namespace(namespace) {
+            None => None,
+            Some(it) => Some(&it.table),
+        }
     }
 
     /// Returns the user namespace to which the mount namespace with this number belongs, user_namespaces(7).
     pub fn owner(&self, namespace: u32) -> Option<u32>
-        ensures owner_of_the_number { result ≡ of_number self.now.owners namespace }
+        ensures owner_of_the_number { result ≡ option_map (λ it. it.owner) (of_number self.now.namespaces namespace) }
     {
-        self.state.owner(namespace)
+        match self.state.namespace(namespace) {
+            None => None,
+            Some(it) => Some(it.owner),
+        }
     }
 
     /// Returns the kernel's table of calls and families.
     pub fn call_table(&self) -> &'a CallTable
         ensures told { result.now ≡ self.now.calls }
-        ensures holds_of_each_world { IsKernel self.now.processes self.now.tables }
+        ensures holds_of_each_world { IsKernel self.now.processes self.now.namespaces }
     {
         self.told.calls
     }

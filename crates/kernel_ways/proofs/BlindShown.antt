@@ -34,7 +34,8 @@ use Rattle.launcher.specs.kernel_model.kern_files.MountCall.{mount_onto, after_m
 use Rattle.launcher.specs.kernel_model.kernel_calls.Calls.{IsPath}
 use Rattle.launcher.specs.kernel_model.declared.kernel_calls.call.Call.{Call}
 use Rattle.launcher.specs.kernel_model.Runs.{run}
-use Rattle.launcher.specs.kernel_model.World.{World, table_of, table_or}
+use Rattle.launcher.specs.kernel_model.MountNamespaces.{namespace_or}
+use Rattle.launcher.specs.kernel_model.World.{World, table_of}
 use Rattle.launcher.specs.kernel_laws.Blind.{exposes, blind_at, is_blind, IsSmall, IsFolder}
 use Rattle.launcher.specs.kernel_laws.Bound.{caps_at, power_of}
 use Rattle.launcher.specs.kernel_laws.Denied.{Exposes, IsBlind}
@@ -163,8 +164,8 @@ record Sees (folder : Path) (table : Table) : Type 0 where
 sees_exposes : (launch : Launch) (creds : Creds) (table : Table) (world : World) → IsSolo launch creds table world → (folder : Path)
     → Sees folder table → Exposes folder world
 sees_exposes launch creds table world s folder sees =
-    let own : World = solo_world launch creds s.namespace s.tables s.owners in
-    let table_is : table_of own s.namespace ≡ table = ap (λ b. steps_of (table_or (cond b None (slice_get s.tables (s.namespace - 1))))) s.numbered ∙ ap (λ o. steps_of (table_or o)) s.own ∙ steps_plain table in
+    let own : World = solo_world launch creds s.namespace s.spaces in
+    let table_is : table_of own s.namespace ≡ table = ap (λ b. steps_of (namespace_or (cond b None (slice_get s.spaces (s.namespace - 1)))).table) s.numbered ∙ ap (λ o. steps_of (namespace_or o).table) s.own ∙ steps_plain table in
     subst (λ (w : World). Exposes folder w) (sym s.is) (record {
       pid = 1;
       process = solo_process launch creds s.namespace;

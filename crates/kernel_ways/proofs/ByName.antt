@@ -34,7 +34,8 @@ use Rattle.launcher.specs.kernel_model.Effects.{Refuse, SetTable, table_effect}
 use Rattle.launcher.specs.kernel_laws.Kinds.{AreWords, no_words, one_word}
 use Rattle.launcher.specs.kernel_model.declared.kernel_calls.call.Call.{Call}
 use Rattle.launcher.specs.kernel_model.Runs.{run}
-use Rattle.launcher.specs.kernel_model.World.{World, living_of, table_of, table_or}
+use Rattle.launcher.specs.kernel_model.MountNamespaces.{namespace_or}
+use Rattle.launcher.specs.kernel_model.World.{World, living_of, table_of}
 use Rattle.launcher.specs.kernel_model.declared.process.Process.{Process}
 use Rattle.launcher.specs.kernel_laws.Launched.{Launch, passes, launch_of}
 use Rattle.launcher.specs.kern_mounts.declared.step.Flags.{Flags}
@@ -146,7 +147,7 @@ found_alone launch creds table world calls path target test told d found =
     let s = d.solo in
     let process : Process = solo_process launch creds s.namespace in
     let own : table_of (run world calls) s.namespace ≡ table =
-    ap (λ (w : World). table_of w s.namespace) s.is ∙ ap (λ b. steps_of (table_or (cond b None (slice_get s.tables (s.namespace - 1))))) s.numbered ∙ ap (λ o. steps_of (table_or o)) s.own ∙ steps_plain table in
+    ap (λ (w : World). table_of w s.namespace) s.is ∙ ap (λ b. steps_of (namespace_or (cond b None (slice_get s.spaces (s.namespace - 1)))).table) s.numbered ∙ ap (λ o. steps_of (namespace_or o).table) s.own ∙ steps_plain table in
     record {
       fit = d.fit;
       done = d.done;

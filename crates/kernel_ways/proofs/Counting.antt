@@ -44,7 +44,8 @@ use Rattle.launcher.specs.kernel_model.MountStep.{with_step, stepped_by}
 use Rattle.launcher.specs.kernel_model.Step.{step}
 use Rattle.launcher.specs.kernel_model.StepCases as case
 use Rattle.launcher.specs.kernel_model.StepCases.{EffectCase, StepCase}
-use Rattle.launcher.specs.kernel_model.World.{World, living_of, mounts_of, host_of, caller_of, start_world, owner_of}
+use Rattle.launcher.specs.kernel_model.MountNamespaces.{copy_for, with_other_table}
+use Rattle.launcher.specs.kernel_model.World.{World, living_of, namespace_of, mounts_of, host_of, caller_of, start_world}
 use Rattle.launcher.specs.kernel_model.declared.process.Process.{Process}
 use Rattle.launcher.specs.kernel_model.declared.reply.Reply.{Reply}
 use Rattle.launcher.proofs.OfKernelModel.Cases.{steps_by_cases}
@@ -61,7 +62,6 @@ use Rattle.launcher.proofs.Leading.{Leads, leads_parts}
 use Rattle.launcher.specs.linux_numbers.Capabilities.{cap_sys_admin, cap_last_cap}
 use Rattle.launcher.specs.linux_numbers.Errnos.{eperm, eacces, einval, enomem}
 use Rattle.launcher.specs.linux_numbers.Limits.{max_insns_per_path, no_id}
-use Rattle.launcher.specs.kern_mounts.Copying.{copied}
 use Rattle.launcher.specs.site_table.Table.{Site}
 
 -- clone(2) and unshare(2), which alone make namespaces
@@ -262,11 +262,11 @@ effect_stays host caller (d.Plain cap') e = stays_alone caller.newer cap' caller
 -- ---- a step
 module _ (world : World) where
   effect_count : {pid : ℕ} {process : Process} {effect : Effect} {out : Reply × World} → EffectCase world pid process effect out
-      → Stays effect → length out.1.tables ≡ length world.tables
+      → Stays effect → length out.1.namespaces ≡ length world.namespaces
   effect_count (case.refuses errno) h = refl
   effect_count (case.answers value) h = refl
   effect_count (case.takes_creds creds) h = refl
-  effect_count {process = process} (case.takes_table table) h = length-set world.tables (process.namespace - 1) table
+  effect_count {process = process} (case.takes_table table) h = length-set world.namespaces (process.namespace - 1) (with_other_table (namespace_of world process.namespace) table)
   effect_count (case.takes_program program) h = refl
   effect_count (case.no_process_left own full) h = refl
   effect_count (case.shares few) h = refl
@@ -286,31 +286,31 @@ module _ (world : World) where
   effect_count case.ends h = refl
 
   effect_more : {pid : ℕ} {process : Process} {effect : Effect} {out : Reply × World} → EffectCase world pid process effect out
-      → length out.1.tables ≤ length world.tables + 1
+      → length out.1.namespaces ≤ length world.namespaces + 1
   effect_more (case.refuses errno) = omega arith
   effect_more (case.answers value) = omega arith
   effect_more (case.takes_creds creds) = omega arith
-  effect_more {process = process} (case.takes_table table) = let e = length-set world.tables (process.namespace - 1) table in omega (arith, e)
+  effect_more {process = process} (case.takes_table table) = let e = length-set world.namespaces (process.namespace - 1) (with_other_table (namespace_of world process.namespace) table) in omega (arith, e)
   effect_more (case.takes_program program) = omega arith
   effect_more (case.no_process_left own full) = omega arith
   effect_more (case.shares few) = omega arith
   effect_more (case.no_namespace_for_child few full) = omega arith
-  effect_more {process = process} (case.gives_copy few room) = let e = length-push world.tables (copied (not (eqb (owner_of world process.namespace) process.user)) (mounts_of world process.namespace)) in omega (arith, e)
+  effect_more {process = process} (case.gives_copy few room) = let e = length-push world.namespaces (copy_for (namespace_of world process.namespace) process.user) in omega (arith, e)
   effect_more (case.no_namespace_left full) = omega arith
-  effect_more {process = process} (case.moves room) = let e = length-push world.tables (copied (not (eqb (owner_of world process.namespace) process.user)) (mounts_of world process.namespace)) in omega (arith, e)
+  effect_more {process = process} (case.moves room) = let e = length-push world.namespaces (copy_for (namespace_of world process.namespace) process.user) in omega (arith, e)
   effect_more (case.no_user_for_child own full) = omega arith
   effect_more (case.no_process_for_user own left full) = omega arith
   effect_more (case.gives_user left room) = omega arith
   effect_more (case.no_namespace_for_user left room full) = omega arith
-  effect_more {process = process} (case.gives_user_and_copy left room space) = let e = length-push world.tables (copied (not (eqb (owner_of world process.namespace) (world.users + 2))) (mounts_of world process.namespace)) in omega (arith, e)
+  effect_more {process = process} (case.gives_user_and_copy left room space) = let e = length-push world.namespaces (copy_for (namespace_of world process.namespace) (world.users + 2)) in omega (arith, e)
   effect_more (case.no_user_left own full) = omega arith
   effect_more (case.enters left) = omega arith
   effect_more (case.no_namespace_behind_user left full) = omega arith
-  effect_more {process = process} (case.enters_and_moves left space) = let e = length-push world.tables (copied (not (eqb (owner_of world process.namespace) (world.users + 2))) (mounts_of world process.namespace)) in omega (arith, e)
+  effect_more {process = process} (case.enters_and_moves left space) = let e = length-push world.namespaces (copy_for (namespace_of world process.namespace) (world.users + 2)) in omega (arith, e)
   effect_more case.ends = omega arith
 
   case_count : {call : Call} {out : Reply × World} → StepCase world call out
-      → ((operation : Operation) → asked_of world.calls call ≡ Does operation → parts operation ≡ false) → length out.1.tables ≡ length world.tables
+      → ((operation : Operation) → asked_of world.calls call ≡ Does operation → parts operation ≡ false) → length out.1.namespaces ≡ length world.namespaces
   case_count (case.absent e) h = refl
   case_count (case.filtered process errno e g) h = refl
   case_count (case.killed process e g) h = refl
@@ -319,7 +319,7 @@ module _ (world : World) where
   case_count (case.does process operation out passes e c) h = effect_count c
       (effect_stays (host_of world) (caller_of world process) operation (h operation e))
 
-  case_more : {call : Call} {out : Reply × World} → StepCase world call out → length out.1.tables ≤ length world.tables + 1
+  case_more : {call : Call} {out : Reply × World} → StepCase world call out → length out.1.namespaces ≤ length world.namespaces + 1
   case_more (case.absent e) = omega arith
   case_more (case.filtered process errno e g) = omega arith
   case_more (case.killed process e g) = omega arith
@@ -346,18 +346,18 @@ module _ (table : calls.Table) where
       by (Some process) = refl
 
   quiet_step : (world : World) (own : LaunchStep) → world.calls ≡ table → IsQuiet own
-      → length (launch_step world own).1.tables ≡ length world.tables
+      → length (launch_step world own).1.namespaces ≡ length world.namespaces
   quiet_step world (Makes call) is quiet = case_count world (steps_by_cases world call)
       (λ operation e. quiet operation (ap (λ (t : calls.Table). asked_of t call) (sym is) ∙ e))
   quiet_step world (Mounts entry) is quiet = by (living_of world 1)
     where
-      by : (o : Option Process) → length (stepped_by world entry o).tables ≡ length world.tables
+      by : (o : Option Process) → length (stepped_by world entry o).namespaces ≡ length world.namespaces
       by None = refl
-      by (Some process) = length-set world.tables (process.namespace - 1) (with_step (mounts_of world process.namespace) entry)
+      by (Some process) = length-set world.namespaces (process.namespace - 1) (with_other_table (namespace_of world process.namespace) (with_step (mounts_of world process.namespace) entry))
 
   quiet_steps : (world last : World) (steps : List LaunchStep) → world.calls ≡ table → AreQuiet steps → Leads world steps last
-      → length last.tables ≡ length world.tables
-  quiet_steps world last [] is quiet l = ap (λ (w : World). length w.tables) (sym l)
+      → length last.namespaces ≡ length world.namespaces
+  quiet_steps world last [] is quiet l = ap (λ (w : World). length w.namespaces) (sym l)
   quiet_steps world last (own ∷ steps) is quiet l = quiet_steps (launch_step world own).1 last steps
       (told_after world own ∙ is) quiet.1 l.1 ∙ quiet_step world own is quiet.0
 
@@ -437,8 +437,8 @@ module _ (table : calls.Table) where
 
     -- the mounts in a namespace of their own
     unshared : (steps : List LaunchStep) (world mid : World) → world.calls ≡ table → AreQuiet steps
-        → Leads world (with_unshare table.calls steps) mid → length mid.tables ≤ length world.tables + 1
-    unshared [] world mid is quiet l = let e = ap (λ (w : World). length w.tables) l in omega (arith, e)
+        → Leads world (with_unshare table.calls steps) mid → length mid.namespaces ≤ length world.namespaces + 1
+    unshared [] world mid is quiet l = let e = ap (λ (w : World). length w.namespaces) l in omega (arith, e)
     unshared (own ∷ steps) world mid is quiet l =
         let call : Call = first_call table.calls (codes "unshare") (0x2_0000 ∷ 0 ∷ 0 ∷ 0 ∷ 0 ∷ 0 ∷ []) Nothing in
         let more = case_more world (steps_by_cases world call) in
@@ -446,7 +446,7 @@ module _ (table : calls.Table) where
         omega (arith, more, rest)
 
     pub few_tables : (site : Site) (plan : Table) (last : World)
-        → Leads (start_world table site) (launch_steps table.calls wanted plan) last → length last.tables ≤ 2
+        → Leads (start_world table site) (launch_steps table.calls wanted plan) last → length last.namespaces ≤ 2
     few_tables site plan last l =
         let own = leads_parts (start_world table site) (with_unshare table.calls (mount_steps plan)) (call_steps table.calls wanted) last l in
         let first = unshared (mount_steps plan) (start_world table site) own.mid refl (mounts_quiet plan) own.before in

@@ -77,7 +77,7 @@ module _ (launch : Launch) (some : nat_lt 0 launch.site.user_namespaces ≡ true
   -- the process that entered it lives there
   is_inside : (pid namespace : ℕ) {world : World} → world.calls ≡ launch.calls → world.site ≡ launch.site
       → living_of world pid ≡ Some (entered_by (solo_process launch creds namespace) 0) → mounts_of world namespace ≡ map plain table
-      → nat_lt (length world.tables) most_namespaces ≡ true → nat_lt (length world.processes) most_processes ≡ true
+      → nat_lt (length world.namespaces) most_namespaces ≡ true → nat_lt (length world.processes) most_processes ≡ true
       → IsEntered launch (entered creds) table pid world
   is_inside pid namespace calls site lives own few fewer = record {
     calls = calls;
@@ -95,26 +95,26 @@ module _ (launch : Launch) (some : nat_lt 0 launch.site.user_namespaces ≡ true
   by_unshare : (call : Call) → Makes launch creds table (d.Unshare (flag_of namespace.User)) call (f.OwnUser false) → (after : World)
       → IsSolo launch creds table after → After 1 (step after call)
   by_unshare call m after s =
-      let own = solo_world launch creds s.namespace s.tables s.owners in
+      let own = solo_world launch creds s.namespace s.spaces in
       let P : World → Type 0 = λ w. After 1 (step w call) in
       let Q : Reply × World → Type 0 = λ out. After 1 out in
       let R : Bool → Type 0 = λ b. After 1 (cond {A = Reply × World} b (moved_in own (with_user own) 1 (entered_by (solo_process launch creds s.namespace) 0) false) (reply.Refused 28, own)) in
       subst P (sym s.is) (subst Q
-      (sym (steps launch creds table s.namespace s.tables s.owners s.numbered s.own s.home s.few
+      (sym (steps launch creds table s.namespace s.spaces s.numbered s.own s.few
       (d.Unshare (flag_of namespace.User)) call (f.OwnUser false) m))
-      (subst R (sym some) (tt, is_inside 1 s.namespace refl refl refl (mounts_are launch creds table s.namespace s.tables s.owners s.numbered s.own s.home s.few (d.Unshare (flag_of namespace.User)) call (f.OwnUser false) m) s.few refl)))
+      (subst R (sym some) (tt, is_inside 1 s.namespace refl refl refl (mounts_are launch creds table s.namespace s.spaces s.numbered s.own s.few (d.Unshare (flag_of namespace.User)) call (f.OwnUser false) m) s.few refl)))
 
   by_clone : (call : Call) → Makes launch creds table (d.Clone (flag_of namespace.User)) call (f.UserChild false) → (after : World)
       → IsSolo launch creds table after → After 2 (step after call)
   by_clone call m after s =
-      let own = solo_world launch creds s.namespace s.tables s.owners in
+      let own = solo_world launch creds s.namespace s.spaces in
       let P : World → Type 0 = λ w. After 2 (step w call) in
       let Q : Reply × World → Type 0 = λ out. After 2 out in
       let R : Bool → Type 0 = λ b. After 2 (cond {A = Reply × World} b (child_in own (with_user own) (entered_by (solo_process launch creds s.namespace) 0) false) (reply.Refused 28, own)) in
       subst P (sym s.is) (subst Q
-      (sym (steps launch creds table s.namespace s.tables s.owners s.numbered s.own s.home s.few
+      (sym (steps launch creds table s.namespace s.spaces s.numbered s.own s.few
       (d.Clone (flag_of namespace.User)) call (f.UserChild false) m))
-      (subst R (sym some) (tt, is_inside 2 s.namespace refl refl refl (mounts_are launch creds table s.namespace s.tables s.owners s.numbered s.own s.home s.few (d.Clone (flag_of namespace.User)) call (f.UserChild false) m) s.few refl)))
+      (subst R (sym some) (tt, is_inside 2 s.namespace refl refl refl (mounts_are launch creds table s.namespace s.spaces s.numbered s.own s.few (d.Clone (flag_of namespace.User)) call (f.UserChild false) m) s.few refl)))
 
   enters_by : {own : Rule} {args : List ℕ} → (nr : CallAt) → IsCallAt nr → rule_there launch nr ≡ Some own → passes_at launch nr args
       → choices.Choice (k.ForNamespace namespace.User) own args → Enters own (first_by nr args (space_payload own namespace.User))

@@ -30,7 +30,7 @@ use Rattle.launcher.specs.kern_creds.declared.creds.Creds.{Creds}
 use Rattle.launcher.specs.kern_creds.Exec.{is_privileged, is_refused, exec_done}
 use Rattle.launcher.specs.kern_mounts.Finds.{Found, row, empty_directory, nothing, finds}
 use Rattle.launcher.specs.kern_mounts.Launch.{CanBeMounted}
-use Rattle.launcher.specs.kern_mounts.Mounts.{Mounts as MountList, plain}
+use Rattle.launcher.specs.kern_mounts.Mounts.{plain}
 use Rattle.launcher.specs.kern_mounts.Split.{Table}
 use Rattle.launcher.specs.kern_mounts.declared.step.Flags.{Flags}
 use Rattle.launcher.specs.kernel_model.kern_files.Executing.{marks_of, executed, exec_answer}
@@ -46,7 +46,9 @@ use Rattle.launcher.specs.kernel_model.declared.kernel_calls.rule.Rule.TheVarian
 use Rattle.launcher.specs.kernel_model.Effects.{Effect, SetCreds, creds_effect}
 use Rattle.launcher.specs.kernel_model.Runs.{IsDone}
 use Rattle.launcher.specs.kernel_model.Step.{most_namespaces, step, applied, decided}
+use Rattle.launcher.specs.kernel_model.MountNamespaces.{owned_by_first}
 use Rattle.launcher.specs.kernel_model.World.{World, start_world, of_number}
+use Rattle.launcher.specs.kernel_model.declared.mount_namespace.MountNamespace.{MountNamespace}
 use Rattle.launcher.specs.kernel_model.declared.process.Process.{Process}
 use Rattle.launcher.specs.kernel_model.declared.reply.Reply.{Reply}
 use Rattle.launcher.specs.kernel_laws.FirstChoice.{Means}
@@ -93,9 +95,9 @@ module _ (table : calls.Table) (site : Site) where
   passed world call process (decision.Errno errno) done = absurd done
   passed world call process decision.Kill done = absurd done
 
-  module _ (creds : Creds) (stack : List (List Insn)) (namespace : ℕ) (tables : List MountList) where
+  module _ (creds : Creds) (stack : List (List Insn)) (namespace : ℕ) (spaces : List MountNamespace) where
     abbrev own_world : World
-    own_world = solo table site creds stack namespace tables
+    own_world = solo table site creds stack namespace spaces
 
     abbrev own_process : Process
     own_process = only table site creds stack namespace
@@ -160,32 +162,32 @@ module _ (table : calls.Table) (site : Site) where
       pub through : decision_on stack (data_at (launched_with before stack) 0 (number_of table.calls (codes "execve")) no_words)
           ≡ decision.Pass
       pub namespace : ℕ
-      pub tables : List MountList
-      pub own : of_number tables namespace ≡ Some (map plain plan)
-      pub ran : Ran before stack namespace tables (flags_at plan program) (finds (row_at site.rows) plan program)
+      pub spaces : List MountNamespace
+      pub own : of_number spaces namespace ≡ Some (owned_by_first (map plain plan))
+      pub ran : Ran before stack namespace spaces (flags_at plan program) (finds (row_at site.rows) plan program)
       pub is : launch_of last ≡ launched_with ran.after stack
 
     ends : (Q : Creds → Type 0) (stack : List (List Insn)) (world last : World) → At table site Q stack plan world
         → Leads world (program_steps table.calls program) last → Ends Q stack last
     ends Q stack world last at l =
-        let own : World = solo table site at.creds stack at.namespace at.tables in
+        let own : World = solo table site at.creds stack at.namespace at.spaces in
         let process : Process = only table site at.creds stack at.namespace in
         let done : IsDone (step own exec_call).0 = subst (λ (v : World). IsDone (step v exec_call).0) at.is l.0 in
-        let same = own_table table site at.creds stack at.namespace at.tables plan at.own in
-        let stepped = does table site at.creds stack at.namespace at.tables exec_call.nr exec_call.args (OnePath program) (Known known.Execve) (d.Execve program) calls'.execve refl done
+        let same = own_table table site at.creds stack at.namespace at.spaces plan at.own in
+        let stepped = does table site at.creds stack at.namespace at.spaces exec_call.nr exec_call.args (OnePath program) (Known known.Execve) (d.Execve program) calls'.execve refl done
         ∙ ap (λ (t : Table). applied own 1 process (creds_effect (exec_answer at.creds (flags_at t program) (finds (row_at site.rows) t program)))) same in
         let done' = subst (λ (out : Reply × World). IsDone out.0) stepped done in
-        let ran' = ran at.creds stack at.namespace at.tables (flags_at plan program) (finds (row_at site.rows) plan program) done' in
+        let ran' = ran at.creds stack at.namespace at.spaces (flags_at plan program) (finds (row_at site.rows) plan program) done' in
         let now : step own exec_call ≡ applied own 1 process (SetCreds ran'.after) = stepped ∙ ap (applied own 1 process) ran'.becomes in
-        let last_is : last ≡ solo table site ran'.after stack at.namespace at.tables = sym l.1 ∙ ap (λ (v : World). (step v exec_call).1) at.is ∙ ap (λ (out : Reply × World). out.1) now in
-        let shown : launch_of (solo table site ran'.after stack at.namespace at.tables) ≡ launched_with ran'.after stack =
-        ap (λ (t : Table). record { calls = table; site = site; creds = ran'.after; stack = stack; table = t }) (own_table table site ran'.after stack at.namespace at.tables plan at.own) in
+        let last_is : last ≡ solo table site ran'.after stack at.namespace at.spaces = sym l.1 ∙ ap (λ (v : World). (step v exec_call).1) at.is ∙ ap (λ (out : Reply × World). out.1) now in
+        let shown : launch_of (solo table site ran'.after stack at.namespace at.spaces) ≡ launched_with ran'.after stack =
+        ap (λ (t : Table). record { calls = table; site = site; creds = ran'.after; stack = stack; table = t }) (own_table table site ran'.after stack at.namespace at.spaces plan at.own) in
         record {
           before = at.creds;
           ready = at.as_asked;
           through = passed own exec_call process (decision_on stack (data_at (launched_with at.creds stack) 0 exec_call.nr no_words)) done;
           namespace = at.namespace;
-          tables = at.tables;
+          spaces = at.spaces;
           own = at.own;
           ran = ran';
           is = ap launch_of last_is ∙ shown;
@@ -267,7 +269,7 @@ read_means settings table (bytes ∷ programs) (code ∷ stack) read each =
 -- the facts of the world that a launch leaves
 record Facts (launch : Launch) (path : Path) (last : World) : Type 0 where
   launched : IsLaunchedWorld last
-  few : length last.tables < most_namespaces
+  few : length last.namespaces < most_namespaces
   offers : Offers (launch_of last)
   is : launch_of last ≡ launch
   program : Row

@@ -26,7 +26,9 @@ use Rattle.launcher.specs.kernel_model.kern_files.Looking.{flags_at, see_answer,
 use Rattle.launcher.specs.kern_mounts.Split.{Table}
 use Rattle.launcher.specs.kernel_laws.declared.question_types.question.Question.{Question}
 use Rattle.launcher.specs.kernel_model.Runs.{Moment, moment_at, moments, run, IsDone, AllDone}
-use Rattle.launcher.specs.kernel_model.World.{World, of_number, if_alive, table_or, mounts_of, owner_or, owner_of}
+use Rattle.launcher.specs.kernel_model.MountNamespaces.{namespace_or, owned_by_first, with_other_table}
+use Rattle.launcher.specs.kernel_model.World.{World, of_number, if_alive, namespace_of, mounts_of, owner_of}
+use Rattle.launcher.specs.kernel_model.declared.mount_namespace.MountNamespace.{MountNamespace}
 use Rattle.launcher.specs.kernel_model.declared.process.Process.{Process}
 use Rattle.launcher.specs.kernel_model.declared.reply.Reply.{Reply}
 use Rattle.launcher.specs.kernel_model.Step.{most_namespaces, step, step_by, decision_by, decided, answered, applied}
@@ -98,18 +100,21 @@ let_pass launch call process operation asks through = by (abi_at launch.calls ca
         ∙ ap (λ (o : Option Abi). decision_on process.stack
         (record { nr = call.nr; arch = option_map_or (λ found. found.arch) o 0; ip = 0; args = call.args })) (sym e) ∙ through
 
-module _ (launch : Launch) (creds : Creds) (table : Table) (namespace : ℕ) (tables : List Mounts) (owners : List ℕ) (numbered : eqb namespace 0 ≡ false) (own : slice_get tables (namespace - 1) ≡ Some (map plain table)) (home : slice_get owners (namespace - 1) ≡ Some 1) (few : nat_lt (length tables) most_namespaces ≡ true) (operation : Operation) (call : Call) (effect : Effect) (m : Makes launch creds table operation call effect) where
+module _ (launch : Launch) (creds : Creds) (table : Table) (namespace : ℕ) (spaces : List MountNamespace) (numbered : eqb namespace 0 ≡ false) (own : slice_get spaces (namespace - 1) ≡ Some (owned_by_first (map plain table))) (few : nat_lt (length spaces) most_namespaces ≡ true) (operation : Operation) (call : Call) (effect : Effect) (m : Makes launch creds table operation call effect) where
   abbrev own_world : World
-  own_world = solo_world launch creds namespace tables owners
+  own_world = solo_world launch creds namespace spaces
 
   abbrev own_process : Process
   own_process = solo_process launch creds namespace
 
+  pub space_is : namespace_of own_world namespace ≡ owned_by_first (map plain table)
+  space_is = ap (λ b. namespace_or (cond b None (slice_get spaces (namespace - 1)))) numbered ∙ ap namespace_or own
+
   pub mounts_are : mounts_of own_world namespace ≡ map plain table
-  mounts_are = ap (λ b. table_or (cond b None (slice_get tables (namespace - 1)))) numbered ∙ ap table_or own
+  mounts_are = ap (λ (n : MountNamespace). n.table) space_is
 
   owner_is : owner_of own_world namespace ≡ 1
-  owner_is = ap (λ b. owner_or (cond b None (slice_get owners (namespace - 1)))) numbered ∙ ap owner_or home
+  owner_is = ap (λ (n : MountNamespace). n.owner) space_is
 
   abbrev caller_with : Mounts → ℕ → Caller
   caller_with t o = record { creds = creds; stack = launch.stack; table = t; newer = false; owns = eqb o 1 }
@@ -144,26 +149,28 @@ module _ (launch : Launch) (creds : Creds) (table : Table) (namespace : ℕ) (ta
 
 module _ (launch : Launch) (creds : Creds) (table : Table) (world : World) (s : IsSolo launch creds table world) (operation : Operation) (call : Call) where
   pub solo_done : (effect : Effect) → Makes launch creds table operation call effect → IsDoable effect → IsDone (step world call).0
-  solo_done effect m h = let P : World → Type 0 = λ w. IsDone (step w call).0 in subst P (sym s.is) (is_done launch creds table s.namespace s.tables s.owners s.numbered s.own s.home s.few operation call effect m h)
+  solo_done effect m h = let P : World → Type 0 = λ w. IsDone (step w call).0 in subst P (sym s.is) (is_done launch creds table s.namespace s.spaces s.numbered s.own s.few operation call effect m h)
 
   pub solo_creds : (now : Creds) → Makes launch creds table operation call (SetCreds now) → IsSolo launch now table (step world call).1
   solo_creds now m =
-      let is = ap (λ (w : World). (step w call).1) s.is ∙ ap (λ (r : Reply × World). r.1) (steps launch creds table s.namespace s.tables s.owners s.numbered s.own s.home s.few operation call (SetCreds now) m) in
-      record { namespace = s.namespace; tables = s.tables; owners = s.owners; is = is; numbered = s.numbered; own = s.own; home = s.home; few = s.few }
+      let is = ap (λ (w : World). (step w call).1) s.is ∙ ap (λ (r : Reply × World). r.1) (steps launch creds table s.namespace s.spaces s.numbered s.own s.few operation call (SetCreds now) m) in
+      record { namespace = s.namespace; spaces = s.spaces; is = is; numbered = s.numbered; own = s.own; few = s.few }
 
   pub solo_table : (now : Table) → Makes launch creds table operation call (SetTable (map plain now))
       → IsSolo launch creds now (step world call).1
   solo_table now m =
-      let is = ap (λ (w : World). (step w call).1) s.is ∙ ap (λ (r : Reply × World). r.1) (steps launch creds table s.namespace s.tables s.owners s.numbered s.own s.home s.few operation call (SetTable (map plain now)) m) in
+      let own : World = solo_world launch creds s.namespace s.spaces in
+      let next : MountNamespace = owned_by_first (map plain now) in
+      let space = space_is launch creds table s.namespace s.spaces s.numbered s.own s.few operation call (SetTable (map plain now)) m in
+      let is = ap (λ (w : World). (step w call).1) s.is ∙ ap (λ (r : Reply × World). r.1) (steps launch creds table s.namespace s.spaces s.numbered s.own s.few operation call (SetTable (map plain now)) m)
+      ∙ ap (λ (n : MountNamespace). record own { namespaces = slice_set s.spaces (s.namespace - 1) (with_other_table n (map plain now)) }) space in
       record {
         namespace = s.namespace;
-        tables = slice_set s.tables (s.namespace - 1) (map plain now);
-        owners = s.owners;
+        spaces = slice_set s.spaces (s.namespace - 1) next;
         is = is;
         numbered = s.numbered;
-        home = s.home;
-        own = put_own s.tables (s.namespace - 1) (map plain table) (map plain now) s.own;
-        few = ap (λ n. nat_lt n most_namespaces) (put_length s.tables (s.namespace - 1) (map plain now)) ∙ s.few;
+        own = put_own s.spaces (s.namespace - 1) (owned_by_first (map plain table)) next s.own;
+        few = ap (λ n. nat_lt n most_namespaces) (put_length s.spaces (s.namespace - 1) next) ∙ s.few;
       }
 
 pub record WayRuns (launch : Launch) (creds : Creds) (table : Table) (world : World) (list : List Call) : Type 0 where

@@ -21,32 +21,34 @@ use Rattle.launcher.proofs.OfKernMounts.Plain.{steps_plain, plain_again}
 use Rattle.launcher.specs.kern_mounts.Split.{Table}
 use Rattle.launcher.specs.kernel_laws.declared.question_types.wish.Wish.{Wish}
 use Rattle.launcher.specs.kernel_model.Runs.{moment_at, IsDone}
-use Rattle.launcher.specs.kernel_model.World.{World, process_of, mounts_of, table_of, table_or}
+use Rattle.launcher.specs.kernel_model.MountNamespaces.{namespace_or, owned_by_first}
+use Rattle.launcher.specs.kernel_model.World.{World, process_of, namespace_of, mounts_of, table_of}
+use Rattle.launcher.specs.kernel_model.declared.mount_namespace.MountNamespace.{MountNamespace}
 use Rattle.launcher.specs.kernel_model.declared.process.Process.{Process}
 use Rattle.launcher.specs.kernel_model.Step.{most_namespaces, step}
 use Rattle.kernel_ways.specs.Ways.{IsSolo, Makes, solo_world, solo_process}
 
-some_of : {X : Type 0} (tables : List X) (namespace : ℕ) (table : X) (b : Bool) → eqb namespace 0 ≡ b
-    → cond b None (slice_get tables (namespace - 1)) ≡ Some table
-    → (eqb namespace 0 ≡ false) × (slice_get tables (namespace - 1) ≡ Some table)
-some_of tables namespace table true n e = cc
-some_of tables namespace table false n e = (n, e)
+some_of : {X : Type 0} (xs : List X) (namespace : ℕ) (x : X) (b : Bool) → eqb namespace 0 ≡ b
+    → cond b None (slice_get xs (namespace - 1)) ≡ Some x
+    → (eqb namespace 0 ≡ false) × (slice_get xs (namespace - 1) ≡ Some x)
+some_of xs namespace x true n e = cc
+some_of xs namespace x false n e = (n, e)
 
-pub starts_solo : (world : World) → IsLaunchedWorld world → length world.tables < most_namespaces
+pub starts_solo : (world : World) → IsLaunchedWorld world → length world.namespaces < most_namespaces
     → IsSolo (launch_of world) (launch_of world).creds (launch_of world).table world
 starts_solo world s few =
     let first = first_of world in
     let whole : first ≡ solo_process (launch_of world) first.creds first.namespace = ap (λ (b : Bool). record first { alive = b }) s.lives ∙ ap (λ (u : ℕ). record first { user = u; alive = true }) s.user in
-    let home = some_of {X = ℕ} world.owners first.namespace 1 (eqb first.namespace 0) refl s.home in
-    let both = some_of world.tables first.namespace (map plain (table_of world first.namespace)) (eqb first.namespace 0) refl (s.own ∙ ap (λ (t : Mounts). Some t) (sym (plain_again (mounts_of world first.namespace) s.plain))) in
+    let space : namespace_of world first.namespace ≡ owned_by_first (map plain (table_of world first.namespace)) =
+    ap (λ (o : ℕ). record (namespace_of world first.namespace) { owner = o }) s.home
+    ∙ ap (λ (t : Mounts). owned_by_first t) (sym (plain_again (mounts_of world first.namespace) s.plain)) in
+    let both = some_of world.namespaces first.namespace (owned_by_first (map plain (table_of world first.namespace))) (eqb first.namespace 0) refl (s.own ∙ ap (λ (n : MountNamespace). Some n) space) in
     record {
       namespace = first.namespace;
-      tables = world.tables;
-      owners = world.owners;
+      spaces = world.namespaces;
       is = ap (λ (ps : List Process). record world { processes = ps }) (s.alone ∙ ap (λ (p : Process). p ∷ []) whole)
           ∙ ap (λ (u : ℕ). record world { processes = solo_process (launch_of world) first.creds first.namespace ∷ []; users = u })
           s.no_users;
-      home = home.1;
       numbered = both.0;
       own = both.1;
       few = grind (arith, nat_tests, few);
@@ -54,11 +56,11 @@ starts_solo world s few =
 
 module _ (launch : Launch) (creds : Creds) (table : Table) (world : World) (s : IsSolo launch creds table world) where
   abbrev own_world : World
-  own_world = solo_world launch creds s.namespace s.tables s.owners
+  own_world = solo_world launch creds s.namespace s.spaces
 
   table_is : table_of own_world s.namespace ≡ table
-  table_is = ap (λ b. steps_of (table_or (cond b None (slice_get s.tables (s.namespace - 1))))) s.numbered
-      ∙ ap (λ o. steps_of (table_or o)) s.own ∙ steps_plain table
+  table_is = ap (λ b. steps_of (namespace_or (cond b None (slice_get s.spaces (s.namespace - 1)))).table) s.numbered
+      ∙ ap (λ o. steps_of (namespace_or o).table) s.own ∙ steps_plain table
 
   pub holds : (P : Process → Type 0) → P (solo_process launch creds s.namespace) → SomeLiving P world
   holds P h =

@@ -37,7 +37,7 @@ pub record IsEntered (launch : Launch) (creds : Creds) (table : Table) (pid : �
   pub stack : process.stack ≡ launch.stack
   pub newer : is_newer process ≡ true
   pub own : mounts_of world process.namespace ≡ map plain table
-  pub few : nat_lt (length world.tables) most_namespaces ≡ true
+  pub few : nat_lt (length world.namespaces) most_namespaces ≡ true
   pub fewer : nat_lt (length world.processes) most_processes ≡ true
 
 -- the process as a rule sees it, by whether its mount namespace belongs to its user namespace

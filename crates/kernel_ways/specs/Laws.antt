@@ -37,7 +37,7 @@ ListedAreFit = (calls : calls.Table) (site : Site) → IsSite site → AllByRecu
 -- the launched world, with what else a launch leaves, and with room for one more mount namespace
 pub record IsServedWorld (world : World) : Type 0 where
   pub launched : IsLaunchedWorld world
-  pub few : length world.tables < most_namespaces
+  pub few : length world.namespaces < most_namespaces
   pub offers : Offers (launch_of world)
 
 -- some list shows the question

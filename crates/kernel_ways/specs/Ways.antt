@@ -3,7 +3,7 @@ use Rattle.std.specs.Prelude.{◌≡◌, ℕ, ◌-◌, ◌==◌, nat_lt, true, f
 use Rattle.launcher.specs.site_table.Table.{row_at}
 use Rattle.launcher.specs.kern_creds.declared.creds.Creds.{Creds}
 use Rattle.launcher.specs.kern_mounts.Finds.{finds}
-use Rattle.launcher.specs.kern_mounts.Mounts.{Mounts, plain}
+use Rattle.launcher.specs.kern_mounts.Mounts.{plain}
 use Rattle.launcher.specs.kern_mounts.Split.{Table}
 use Rattle.launcher.specs.kernel_model.kern_files.Executing.{exec_answer}
 use Rattle.launcher.specs.kernel_model.kern_files.Looking.{flags_at, see_answer, write_answer, open_answer}
@@ -16,7 +16,9 @@ use Rattle.launcher.specs.kernel_model.declared.kernel_calls.rule.Rule.{Rule}
 use Rattle.launcher.specs.kernel_model.kernel_calls.Operation.{Operation, See, Open, Create, Truncate, Execve, Does, asked_of}
 use Rattle.launcher.specs.kernel_model.Effects.{Effect, SetCreds, SetTable, Host, Caller, effect_of, looks, creds_effect}
 use Rattle.launcher.specs.kernel_model.Step.{most_namespaces}
+use Rattle.launcher.specs.kernel_model.MountNamespaces.{owned_by_first}
 use Rattle.launcher.specs.kernel_model.World.{World, has_mdwe}
+use Rattle.launcher.specs.kernel_model.declared.mount_namespace.MountNamespace.{MountNamespace}
 use Rattle.launcher.specs.kernel_model.declared.process.Process.{Process}
 use Rattle.launcher.specs.kernel_laws.Launched.{Launch, passes}
 
@@ -24,20 +26,18 @@ use Rattle.launcher.specs.kernel_laws.Launched.{Launch, passes}
 abbrev pub solo_process : Launch → Creds → ℕ → Process
 solo_process launch creds namespace = record { creds = creds; stack = launch.stack; namespace = namespace; user = 1; alive = true }
 
-abbrev pub solo_world : Launch → Creds → ℕ → List Mounts → List ℕ → World
-solo_world launch creds namespace tables owners = record { calls = launch.calls; site = launch.site; processes = solo_process launch creds namespace ∷ []; tables = tables; owners = owners; users = 0 }
+abbrev pub solo_world : Launch → Creds → ℕ → List MountNamespace → World
+solo_world launch creds namespace spaces = record { calls = launch.calls; site = launch.site; processes = solo_process launch creds namespace ∷ []; namespaces = spaces; users = 0 }
 
 -- process 1 lives alone in the first user namespace, with these credentials, the filters of the launch and this mount table; and there
 -- is room for one more mount namespace
 pub record IsSolo (launch : Launch) (creds : Creds) (table : Table) (world : World) : Type 0 where
   pub namespace : ℕ
-  pub tables : List Mounts
-  pub owners : List ℕ
-  pub is : world ≡ solo_world launch creds namespace tables owners
+  pub spaces : List MountNamespace
+  pub is : world ≡ solo_world launch creds namespace spaces
   pub numbered : (namespace == 0) ≡ false
-  pub own : slice_get tables (namespace - 1) ≡ Some (map plain table)
-  pub home : slice_get owners (namespace - 1) ≡ Some 1
-  pub few : nat_lt (length tables) most_namespaces ≡ true
+  pub own : slice_get spaces (namespace - 1) ≡ Some (owned_by_first (map plain table))
+  pub few : nat_lt (length spaces) most_namespaces ≡ true
 
 -- the rows and families of the host, and what process 1 has, as a rule sees them
 abbrev pub host_at : Launch → Host

@@ -105,26 +105,26 @@ module _ (programs : List (List Insn)) where
       → child_in (above programs old) (above programs world) (over programs child) own ≡ lifted (child_in old world child own)
   born_in old world child false = ap (λ n. (w.Done (n + 1), with_child (above programs world) (over programs child))) (counted world)
       ∙ ap (λ (v : World). (w.Done (length world.processes + 1), v)) (child_above world child)
-  born_in old world child true = by (nat_lt (length world.tables) 64)
+  born_in old world child true = by (nat_lt (length world.namespaces) 64)
     where
-      by : (b : Bool) → cond {A = Reply × World} b (w.Done (length (map (over programs) world.processes) + 1), with_child (with_copy (above programs world) child.namespace child.user) (over programs (moved_to child (length world.tables)))) (w.Refused enospc, above programs old)
-          ≡ lifted (cond {A = Reply × World} b (w.Done (length world.processes + 1), with_child (with_copy world child.namespace child.user) (moved_to child (length world.tables))) (w.Refused enospc, old))
-      by true = ap (λ n. (w.Done (n + 1), with_child (with_copy (above programs world) child.namespace child.user) (over programs (moved_to child (length world.tables))))) (counted world)
+      by : (b : Bool) → cond {A = Reply × World} b (w.Done (length (map (over programs) world.processes) + 1), with_child (with_copy (above programs world) child.namespace child.user) (over programs (moved_to child (length world.namespaces)))) (w.Refused enospc, above programs old)
+          ≡ lifted (cond {A = Reply × World} b (w.Done (length world.processes + 1), with_child (with_copy world child.namespace child.user) (moved_to child (length world.namespaces))) (w.Refused enospc, old))
+      by true = ap (λ n. (w.Done (n + 1), with_child (with_copy (above programs world) child.namespace child.user) (over programs (moved_to child (length world.namespaces))))) (counted world)
           ∙ ap (λ (v : World). (w.Done (length world.processes + 1), v))
-          (child_above (with_copy world child.namespace child.user) (moved_to child (length world.tables)))
+          (child_above (with_copy world child.namespace child.user) (moved_to child (length world.namespaces)))
       by false = refl
 
   moved_above : (old world : World) (pid : ℕ) (process : Process) (own : Bool)
       → moved_in (above programs old) (above programs world) pid (over programs process) own ≡ lifted (moved_in old world pid process own)
   moved_above old world pid process false = ap (λ (v : World). (w.Done 0, v)) (put_above world pid process)
-  moved_above old world pid process true = by (nat_lt (length world.tables) 64)
+  moved_above old world pid process true = by (nat_lt (length world.namespaces) 64)
     where
-      by : (b : Bool) → cond {A = Reply × World} b (w.Done 0, with_process (with_copy (above programs world) process.namespace process.user) pid (over programs (moved_to process (length world.tables)))) (w.Refused enospc, above programs old)
+      by : (b : Bool) → cond {A = Reply × World} b (w.Done 0, with_process (with_copy (above programs world) process.namespace process.user) pid (over programs (moved_to process (length world.namespaces)))) (w.Refused enospc, above programs old)
           ≡ lifted (cond {A = Reply × World} b
-          (w.Done 0, with_process (with_copy world process.namespace process.user) pid (moved_to process (length world.tables)))
+          (w.Done 0, with_process (with_copy world process.namespace process.user) pid (moved_to process (length world.namespaces)))
           (w.Refused enospc, old))
       by true = ap (λ (v : World). (w.Done 0, v))
-          (put_above (with_copy world process.namespace process.user) pid (moved_to process (length world.tables)))
+          (put_above (with_copy world process.namespace process.user) pid (moved_to process (length world.namespaces)))
       by false = refl
 
   born : (world : World) (process : Process) (own : Bool) → child_of (above programs world) (over programs process) own
@@ -366,19 +366,19 @@ fits world call arch fit = record { nr = fit.nr; arch = arch call.abi; ip = omeg
 calls_child : (old world : World) (child : Process) (own : Bool) → world.calls ≡ old.calls
     → (child_in old world child own).1.calls ≡ old.calls
 calls_child old world child false e = e
-calls_child old world child true e = by (nat_lt (length world.tables) 64)
+calls_child old world child true e = by (nat_lt (length world.namespaces) 64)
   where
-    by : (b : Bool) → (cond {A = Reply × World} b (w.Done (length world.processes + 1), with_child (with_copy world child.namespace child.user) (moved_to child (length world.tables))) (w.Refused enospc, old)).1.calls ≡ old.calls
+    by : (b : Bool) → (cond {A = Reply × World} b (w.Done (length world.processes + 1), with_child (with_copy world child.namespace child.user) (moved_to child (length world.namespaces))) (w.Refused enospc, old)).1.calls ≡ old.calls
     by true = e
     by false = refl
 
 calls_moved : (old world : World) (pid : ℕ) (process : Process) (own : Bool) → world.calls ≡ old.calls
     → (moved_in old world pid process own).1.calls ≡ old.calls
 calls_moved old world pid process false e = e
-calls_moved old world pid process true e = by (nat_lt (length world.tables) 64)
+calls_moved old world pid process true e = by (nat_lt (length world.namespaces) 64)
   where
     by : (b : Bool) → (cond {A = Reply × World} b
-        (w.Done 0, with_process (with_copy world process.namespace process.user) pid (moved_to process (length world.tables)))
+        (w.Done 0, with_process (with_copy world process.namespace process.user) pid (moved_to process (length world.namespaces)))
         (w.Refused enospc, old)).1.calls ≡ old.calls
     by true = e
     by false = refl

@@ -42,10 +42,12 @@ use Rattle.launcher.specs.Launch.{program_steps, give_up_steps, given_up_steps, 
 use Rattle.kernel_laws.specs.Kinds.{no_words}
 use Rattle.kernel_laws.specs.Launched.{Launch, launch_of, passes}
 use Rattle.exec_settings.specs.site_table.Kinds.{is_exe}
-use Rattle.kernel_laws.specs.kern_mounts.Mounts.{Mounts as MountList, first_mounts, plain as plain_mount}
+use Rattle.kernel_laws.specs.kern_mounts.Mounts.{plain as plain_mount}
 use Rattle.kernel_laws.specs.kern_mounts.Split.{Table}
 use Rattle.kernel_laws.specs.Questions.{if_so, count_from}
 use Rattle.kernel_laws.specs.kernel_model.Runs.{IsDone}
+use Rattle.kernel_laws.specs.kernel_model.declared.mount_namespace.MountNamespace.{MountNamespace}
+use Rattle.kernel_laws.specs.kernel_model.MountNamespaces.{first_namespace}
 use Rattle.kernel_laws.specs.kernel_model.World.{World, has_mdwe, start_world, of_number}
 use Rattle.kernel_laws.specs.kernel_model.declared.reply.Reply.{Reply}
 use Rattle.kernel_laws.specs.kernel_model.Step.{step, applied}
@@ -55,7 +57,7 @@ use Rattle.launcher.proofs.HostRoot.{BeginsAtHostRoot, begins_at_host}
 use Rattle.launcher.proofs.Leading.{Leads, launched_leads, leads_parts, leads_map, append_assoc, append_none, append_parts, clash}
 use Rattle.launcher.proofs.MakingPlan.{plan_mounted}
 use Rattle.launcher.proofs.RaisedAll.{counted_small, filter_keeps, filter_passes, all_raised}
-use Rattle.launcher.proofs.Solo.{ones_number, ones_length, At, solo, only, weaker, passed, makes_creds, makes_creds_here, own_host, makes_push, does, creds_done, own_table}
+use Rattle.launcher.proofs.Solo.{At, solo, only, weaker, passed, makes_creds, makes_creds_here, own_host, makes_push, does, creds_done, own_table}
 use Rattle.launcher.proofs.LaunchCreds.{Has, starts, set_groups, set_gids, drops, set_all, keeps_caps, set_uid, Raised, raises, set_left}
 use Rattle.launcher.proofs.LaunchCreds.{IsReady, GivesUp, no_new_privs, refuses_memory, ready_root, ready_user, gives_up, drops_kept, set_ambient, executed}
 use Rattle.launcher.proofs.LaunchCalls.{launch_calls}
@@ -211,7 +213,7 @@ module _ (table : calls.Table) (site : Site) (calls' : HasLaunchCalls table.call
         let done = makes_creds table site (GivesUp uid amb left) (IsReady uid amb left) (codes "capset") 0 0 0 (Sets amb amb left) (rule.Known known.Capset) (d.Capset amb amb left) (λ c. after_capset c amb amb left) calls'.capset refl (λ host creds stack mounts owns. refl)
         (λ c now h is. set_ambient uid amb left c now user own h is) stack plan parts.mid giving parts.after.0 in
         let call : Call = first_call table.calls (codes "capset") (0 ∷ 0 ∷ 0 ∷ 0 ∷ 0 ∷ 0 ∷ []) (Sets amb amb left) in
-        let world' : World = solo table site giving.creds stack giving.namespace giving.tables in
+        let world' : World = solo table site giving.creds stack giving.namespace giving.spaces in
         let there : IsDone (step world' call).0 = subst (λ (v : World). IsDone (step v call).0) giving.is parts.after.0 in
         record {
           at = subst (Here (IsReady uid amb left) stack plan) parts.after.1 done;
@@ -284,14 +286,14 @@ module _ (table : calls.Table) (site : Site) (calls' : HasLaunchCalls table.call
     pub plain : is_privileged file ≡ false
     pub is : effect ≡ creds_effect (after_exec creds file nosuid)
 
-  executes : (creds : Creds) (stack : List (List Insn)) (namespace : ℕ) (tables : List MountList) (flags : Flags) (found : Found Row)
+  executes : (creds : Creds) (stack : List (List Insn)) (namespace : ℕ) (spaces : List MountNamespace) (flags : Flags) (found : Found Row)
       → is_privileged_row found ≡ false
-      → IsDone (applied (solo table site creds stack namespace tables) 1 (only table site creds stack namespace)
+      → IsDone (applied (solo table site creds stack namespace spaces) 1 (only table site creds stack namespace)
       (creds_effect (exec_answer creds flags found))).0 → Executes creds (creds_effect (exec_answer creds flags found))
-  executes creds stack namespace tables flags (row own) unmarked done = by (is_exe own.kind) flags.no_exec unmarked done
+  executes creds stack namespace spaces flags (row own) unmarked done = by (is_exe own.kind) flags.no_exec unmarked done
     where
       by : (b c : Bool) → (b && is_privileged (marks_of own)) ≡ false
-          → IsDone (applied (solo table site creds stack namespace tables) 1 (only table site creds stack namespace)
+          → IsDone (applied (solo table site creds stack namespace spaces) 1 (only table site creds stack namespace)
           (creds_effect (executed_by creds
           (cond (not b) (Err eacces) (cond c (Err eacces) (Ok (record { file = marks_of own; no_suid = flags.no_suid }))))))).0
           → Executes creds (creds_effect
@@ -300,28 +302,28 @@ module _ (table : calls.Table) (site : Site) (calls' : HasLaunchCalls table.call
       by false c unmarked done = absurd done
       by true true unmarked done = absurd done
       by true false unmarked done = record { file = marks_of own; nosuid = flags.no_suid; plain = unmarked; is = refl }
-  executes creds stack namespace tables flags empty_directory unmarked done = absurd done
-  executes creds stack namespace tables flags (nothing errno) unmarked done = absurd done
+  executes creds stack namespace spaces flags empty_directory unmarked done = absurd done
+  executes creds stack namespace spaces flags (nothing errno) unmarked done = absurd done
 
   executed_here : (uid amb i kept : ℕ) (program : Path) (stack : List (List Insn)) (plan : Table) (world last : World)
       → is_privileged_row (finds (row_at site.rows) plan program) ≡ false → IsWithin i (union amb kept)
       → Here (IsReady uid amb i) stack plan world → Leads world (makes table.calls (codes "execve") 0 0 0 (OnePath program) ∷ []) last
       → Here (IsLaunchedCreds kept) stack plan last
   executed_here uid amb i kept program stack plan world last unmarked spares at l =
-      let own : World = solo table site at.creds stack at.namespace at.tables in
+      let own : World = solo table site at.creds stack at.namespace at.spaces in
       let call : Call = first_call table.calls (codes "execve") (0 ∷ 0 ∷ 0 ∷ 0 ∷ 0 ∷ 0 ∷ []) (OnePath program) in
       let done : IsDone (step own call).0 = subst (λ (v : World). IsDone (step v call).0) at.is l.0 in
-      let same = own_table table site at.creds stack at.namespace at.tables plan at.own in
-      let stepped = does table site at.creds stack at.namespace at.tables call.nr call.args (OnePath program) (rule.Known known.Execve) (d.Execve program) calls'.execve refl done
+      let same = own_table table site at.creds stack at.namespace at.spaces plan at.own in
+      let stepped = does table site at.creds stack at.namespace at.spaces call.nr call.args (OnePath program) (rule.Known known.Execve) (d.Execve program) calls'.execve refl done
       ∙ ap (λ (t : Table). applied own 1 (only table site at.creds stack at.namespace) (creds_effect (exec_answer at.creds (flags_at t program) (finds (row_at site.rows) t program)))) same in
       let done' = subst (λ (out : Reply × World). IsDone out.0) stepped done in
-      let e = executes at.creds stack at.namespace at.tables (flags_at plan program) (finds (row_at site.rows) plan program) unmarked done' in
+      let e = executes at.creds stack at.namespace at.spaces (flags_at plan program) (finds (row_at site.rows) plan program) unmarked done' in
       let whole = stepped ∙ ap (λ (effect : Effect). applied own 1 (only table site at.creds stack at.namespace) effect) e.is in
-      let found = creds_done table site at.creds stack at.namespace at.tables (after_exec at.creds e.file e.nosuid) (subst (λ (out : Reply × World). IsDone out.0) whole done) in
+      let found = creds_done table site at.creds stack at.namespace at.spaces (after_exec at.creds e.file e.nosuid) (subst (λ (out : Reply × World). IsDone out.0) whole done) in
       record {
         creds = found.0;
         namespace = at.namespace;
-        tables = at.tables;
+        spaces = at.spaces;
         as_asked = executed uid amb i kept e.file e.nosuid at.creds at.as_asked spares e.plain found.0 found.1;
         is = sym l.1 ∙ ap (λ (v : World). (step v call).1) at.is ∙ ap (λ (out : Reply × World). out.1) whole ∙ found.2;
         own = at.own;
@@ -380,7 +382,7 @@ module _ (table : calls.Table) (site : Site) (calls' : HasLaunchCalls table.call
   ready_at wanted plan last begins small l =
       let lines = table.calls in
       let inherited : ℕ = with_held wanted.keeps_capabilities wanted.ambient in
-      let start : Here (Has 0 all all none) [] mounts.start (start_world table site) = record { creds = creds.start; namespace = 1; tables = first_mounts ∷ []; as_asked = starts; is = refl; own = refl } in
+      let start : Here (Has 0 all all none) [] mounts.start (start_world table site) = record { creds = creds.start; namespace = 1; spaces = first_namespace ∷ []; as_asked = starts; is = refl; own = refl } in
       let own = leads_parts (start_world table site) (with_unshare lines (mount_steps plan)) (identity_steps lines wanted) last l in
       let memory = leads_parts own.mid (group_steps lines wanted ++ drop_steps lines wanted ++ inherit_steps lines wanted ++ user_steps lines wanted ++ raise_steps lines wanted ++ left_steps lines wanted ++ privilege_steps lines wanted) (memory_steps lines wanted) last own.after in
       let privs = leads_parts own.mid (group_steps lines wanted ++ drop_steps lines wanted ++ inherit_steps lines wanted ++ user_steps lines wanted ++ raise_steps lines wanted ++ left_steps lines wanted) (privilege_steps lines wanted) memory.mid memory.before in
@@ -464,7 +466,7 @@ leaves : (table : calls.Table) (site : Site) (calls' : HasLaunchCalls table.call
     → AtEnd table site calls' wanted plan last → Leaves table site wanted plan last
 leaves table site calls' wanted plan last f =
     let at = f.at in
-    let same = own_table table site at.creds f.stack at.namespace at.tables plan at.own in
+    let same = own_table table site at.creds f.stack at.namespace at.spaces plan at.own in
     let own : Launch = record { calls = table; site = site; creds = at.creds; stack = f.stack; table = plan } in
     let shown : launch_of last ≡ own = ap launch_of at.is ∙ ap (λ (t : Table). record { calls = table; site = site; creds = at.creds; stack = f.stack; table = t }) same in
     record {
@@ -473,11 +475,7 @@ leaves table site calls' wanted plan last f =
       namespace = at.namespace;
       is = shown;
       alone = ap (λ (v : World). v.processes) at.is;
-      own = ap (λ (v : World). of_number v.tables at.namespace) at.is ∙ at.own;
-      home = ap (λ (v : World). of_number v.owners at.namespace) at.is
-          ∙ ones_number table site at.tables at.namespace (map plain_mount plan) at.own;
-      numbers = ap (λ (v : World). length v.owners) at.is ∙ ones_length table site at.tables
-          ∙ sym (ap (λ (v : World). length v.tables) at.is);
+      own = ap (λ (v : World). of_number v.namespaces at.namespace) at.is ∙ at.own;
       no_users = ap (λ (v : World). v.users) at.is;
       as_launched = at.as_asked;
       capset_passes = λ on. subst (λ (l : Launch). passes l 0 (number_of table.calls (codes "capset")) no_words) (sym shown) (f.passes on);

@@ -56,11 +56,13 @@ use Rattle.kernel_laws.specs.kernel_model.kernel_calls.Rules.{rule_at}
 use Rattle.kernel_laws.proofs.Filters.{among_all, any_found, found_all, found_number, has_rule}
 use Rattle.exec_settings.specs.cap_sets.Sets.{none, union, IsWithin}
 use Rattle.exec_settings.proofs.OfCapSets.Members.{none_within, union_within, within_self, within_through}
-use Rattle.kernel_laws.specs.kern_mounts.Mounts.{Mounts as MountList, plain as plain_mount, ArePlain as ArePlainMounts}
+use Rattle.kernel_laws.specs.kern_mounts.Mounts.{plain as plain_mount, ArePlain as ArePlainMounts}
 use Rattle.kernel_laws.proofs.OfKernMounts.Leaving.{ascending_is_ordered}
 use Rattle.kernel_laws.proofs.OfKernMounts.Plain.{are_plain}
 use Rattle.kernel_laws.specs.kern_mounts.Split.{Table}
-use Rattle.kernel_laws.specs.kernel_model.World.{World, of_number, mounts_of, table_or}
+use Rattle.kernel_laws.specs.kernel_model.MountNamespaces.{namespace_or, owned_by_first}
+use Rattle.kernel_laws.specs.kernel_model.World.{World, of_number, namespace_of, mounts_of}
+use Rattle.kernel_laws.specs.kernel_model.declared.mount_namespace.MountNamespace.{MountNamespace}
 use Rattle.kernel_laws.specs.kernel_model.declared.process.Process.{Process}
 use Rattle.kernel_laws.proofs.SettingsChoose.{settings_choose}
 use Rattle.launcher.specs.Launches.{AreRead, Leaves}
@@ -298,16 +300,16 @@ launched_is_world settings table site wanted plan last steps whole arch refusing
       chosen = settings_choose launch' settings arch (archs_differ table whole.sound) means plain;
     } in
     let first_is : first_of last ≡ record { creds = l.creds; stack = l.stack; namespace = l.namespace; user = 1; alive = true } = first_of_alone table site wanted plan last l in
-    let own : of_number last.tables (first_of last).namespace ≡ Some (map plain_mount plan) = ap (λ p. of_number last.tables p.namespace) first_is ∙ l.own in
-    let held : mounts_of last (first_of last).namespace ≡ map plain_mount plan = ap table_or own in
+    let own : of_number last.namespaces (first_of last).namespace ≡ Some (owned_by_first (map plain_mount plan)) = ap (λ p. of_number last.namespaces p.namespace) first_is ∙ l.own in
+    let space : namespace_of last (first_of last).namespace ≡ owned_by_first (map plain_mount plan) = ap namespace_or own in
+    let held : mounts_of last (first_of last).namespace ≡ map plain_mount plan = ap (λ (n : MountNamespace). n.table) space in
     record {
       alone = l.alone ∙ ap (λ p. p ∷ []) (sym first_is);
       lives = ap (λ p. p.alive) first_is;
       user = ap (λ p. p.user) first_is;
-      home = ap (λ p. of_number last.owners p.namespace) first_is ∙ l.home;
-      numbers = l.numbers;
+      home = ap (λ (n : MountNamespace). n.owner) space;
       no_users = l.no_users;
-      own = own ∙ ap (λ (t : MountList). Some t) (sym held);
+      own = own ∙ ap (λ (n : MountNamespace). Some n) (sym space);
       plain = subst ArePlainMounts (sym held) (are_plain plan);
       launched = subst IsLaunched (sym l.is) is;
     }

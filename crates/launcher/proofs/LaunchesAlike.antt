@@ -31,7 +31,7 @@ use Rattle.launcher.specs.Launch.{Wanted, LaunchStep, Makes, Mounts, LaunchOutco
 use Rattle.launcher.specs.Launch.{launch_step, launch_steps, launch_on, launch_from, is_privileged_row, mount_steps, with_unshare}
 use Rattle.launcher.specs.Launch.{identity_steps, filter_steps, program_steps, last_steps, give_up_steps, given_up_steps, prctl_step, capset_step}
 use Rattle.launcher.specs.Launch.{capbset_drop, held}
-use Rattle.kernel_laws.specs.kern_mounts.Mounts.{Mounts as MountList}
+use Rattle.kernel_laws.specs.kernel_model.declared.mount_namespace.MountNamespace.{MountNamespace}
 use Rattle.kernel_laws.specs.kern_mounts.Split.{Table}
 use Rattle.kernel_laws.specs.kernel_model.Runs.{IsDone}
 use Rattle.kernel_laws.specs.kernel_model.declared.reply.Reply.TheVariants as w
@@ -215,9 +215,9 @@ module _ (table : calls.Table) (site : Site) (whole : IsWhole table) (arch : Has
           (counted_small 0 41 (omega arith))))
           (other_capset wanted.ambient wanted.ambient last, tt)
 
-  module _ (creds : Creds) (namespace : ℕ) (tables : List MountList) where
+  module _ (creds : Creds) (namespace : ℕ) (spaces : List MountNamespace) where
     abbrev with_stack : List (List Insn) → World
-    with_stack stack = solo table site creds stack namespace tables
+    with_stack stack = solo table site creds stack namespace spaces
 
     abbrev call_of : List ℕ → Call
     call_of bytes = first_call table.calls (codes "seccomp") (1 ∷ 0 ∷ 0 ∷ 0 ∷ 0 ∷ 0 ∷ []) (Code bytes)
@@ -364,13 +364,13 @@ launches_alike table site wanted plan programs one other whole arch can small fi
         (StepKilled place) (stop (after wanted.programs)) (stop (after programs)) refl
     by_begun (goes mid done on) =
         let ready = ready_at table site (launch_calls table whole) wanted plan mid (begins_at_host (site_host site) plan can) small done in
-        let there : (programs : List (List ℕ)) → LaunchOutcome = λ programs. launch_from (solo table site ready.creds [] ready.namespace ready.tables) (after programs) (0 + length before) in
+        let there : (programs : List (List ℕ)) → LaunchOutcome = λ programs. launch_from (solo table site ready.creds [] ready.namespace ready.spaces) (after programs) (0 + length before) in
         let reached : (programs : List (List ℕ)) → from_start programs ≡ there programs = λ programs. on (after programs) ∙ ap (λ (v : World). launch_from v (after programs) (0 + length before)) ready.is in
         let r : 0 + room_of one ≤ max_insns_per_path = let h = first.room in omega arith in
         let r' : 0 + room_of other ≤ max_insns_per_path = let h = second.room in omega arith in
         same_ends one other (from_start wanted.programs) (there wanted.programs) (from_start programs) (there programs)
         (reached wanted.programs) (reached programs)
-        (filters_alike table site whole arch ready.creds ready.namespace ready.tables (last_steps table.calls wanted)
+        (filters_alike table site whole arch ready.creds ready.namespace ready.spaces (last_steps table.calls wanted)
         (last_other table site whole arch wanted) wanted.programs programs one other []
         [] (0 + length before) first.read second.read alike tt (empty_room one r) (empty_room other r'))
 

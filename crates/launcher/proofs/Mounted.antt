@@ -9,15 +9,17 @@ use Rattle.kernel_laws.specs.call_table.Facts.{IsWhole}
 use Rattle.kernel_laws.specs.kern_creds.declared.creds.Creds.{Creds}
 use Rattle.kernel_laws.specs.kern_creds.Start as creds
 use Rattle.kernel_laws.specs.kern_mounts.Table as mounts
-use Rattle.kernel_laws.specs.kern_mounts.Mounts.{Mounts as MountList, plain, first_mounts}
+use Rattle.kernel_laws.specs.kern_mounts.Mounts.{Mounts as MountList, plain}
 use Rattle.kernel_laws.specs.kern_mounts.Remount.{with_root_flags}
 use Rattle.kernel_laws.specs.kern_mounts.Split.{Table}
 use Rattle.kernel_laws.specs.kern_mounts.declared.step.Flags.{Flags}
 use Rattle.kernel_laws.specs.kern_mounts.declared.step.MountStep.{MountStep}
 use Rattle.kernel_laws.specs.kernel_model.declared.kernel_calls.payload.Payload.TheVariants.{Nothing}
+use Rattle.kernel_laws.specs.kernel_model.declared.mount_namespace.MountNamespace.{MountNamespace}
 use Rattle.kernel_laws.specs.kernel_model.declared.process.Process.{Process}
 use Rattle.kernel_laws.specs.kernel_model.MountStep.{after_mount_step, stepped_by, with_step}
-use Rattle.kernel_laws.specs.kernel_model.World.{World, living_of, of_number, put_number, mounts_of, table_or}
+use Rattle.kernel_laws.specs.kernel_model.MountNamespaces.{first_namespace, namespace_or, with_other_table}
+use Rattle.kernel_laws.specs.kernel_model.World.{World, living_of, of_number, put_number, namespace_of, mounts_of}
 use Rattle.launcher.specs.Ends.{Begins, StepsTo, IsStart, HasRoomBy, HasRoomFor, with_mounts}
 use Rattle.launcher.specs.Launch.{LaunchStep, Mounts, launch_from, makes, mount_steps, with_unshare, new_mounts}
 use Rattle.launcher.proofs.LaunchCalls.{launch_calls}
@@ -36,19 +38,20 @@ step_length table step = by (is_root step.place)
     by true = let e = flags_length step.flags table in omega (arith, e)
     by false = let e = length-append table (plain step ∷ []) in omega (arith, e)
 
-set_length : (tables : List MountList) (i : ℕ) (table : MountList)
-    → length (table_or (slice_get (slice_set tables i table) i)) ≤ length table
-set_length [] i table = omega arith
-set_length (own ∷ tables) zero table = omega arith
-set_length (own ∷ tables) (suc i) table = set_length tables i table
+set_length : (spaces : List MountNamespace) (i : ℕ) (space : MountNamespace)
+    → length (namespace_or (slice_get (slice_set spaces i space) i)).table ≤ length space.table
+set_length [] i space = omega arith
+set_length (own ∷ spaces) zero space = omega arith
+set_length (own ∷ spaces) (suc i) space = set_length spaces i space
 
-put_length : (tables : List MountList) (number : ℕ) (table : MountList)
-    → length (table_or (of_number (put_number tables number table) number)) ≤ length table
-put_length tables number table = by (eqb number 0)
+put_length : (spaces : List MountNamespace) (number : ℕ) (space : MountNamespace)
+    → length (namespace_or (of_number (put_number spaces number space) number)).table ≤ length space.table
+put_length spaces number space = by (eqb number 0)
   where
-    by : (b : Bool) → length (table_or (cond b None (slice_get (slice_set tables (number - 1) table) (number - 1)))) ≤ length table
+    by : (b : Bool) → length (namespace_or (cond b None (slice_get (slice_set spaces (number - 1) space) (number - 1)))).table
+        ≤ length space.table
     by true = omega arith
-    by false = set_length tables (number - 1) table
+    by false = set_length spaces (number - 1) space
 
 pub room_less : (count : ℕ) (world : World) (entry : MountStep) → HasRoomFor (suc count) world
     → HasRoomFor count (after_mount_step world 1 entry)
@@ -60,7 +63,7 @@ room_less count world entry room = by (living_of world 1) refl room
     by (Some process) is h =
         let own : MountList = mounts_of world process.namespace in
         let next = stepped_by world entry (Some process) in
-        let put = put_length world.tables process.namespace (with_step own entry) in
+        let put = put_length world.namespaces process.namespace (with_other_table (namespace_of world process.namespace) (with_step own entry)) in
         let one = step_length own entry in
         let fits : length (mounts_of next process.namespace) + count ≤ 4096 = omega (arith, put, one, h) in
         subst (λ (o : Option Process). HasRoomBy next count o) (sym is) fits
@@ -125,10 +128,10 @@ pub room_of_own : (world own : World) (count : ℕ) → IsStart world → IsWhol
     → StepsTo world (unshare_of world.calls.calls) 1 (Ok tt) own → HasRoomFor count own
 room_of_own world own count starts whole few done =
     let calls' = launch_calls world.calls whole in
-    let first : At world.calls world.site Any [] mounts.start world = record { creds = creds.start; namespace = 1; tables = first_mounts ∷ []; as_asked = tt; is = starts; own = refl } in
+    let first : At world.calls world.site Any [] mounts.start world = record { creds = creds.start; namespace = 1; spaces = first_namespace ∷ []; as_asked = tt; is = starts; own = refl } in
     let at = makes_unshare world.calls world.site Any calls'.unshare [] mounts.start world first done.0 in
-    let same = own_mounts world.calls world.site at.creds [] at.namespace at.tables mounts.start at.own in
-    let there : World = solo world.calls world.site at.creds [] at.namespace at.tables in
+    let same = own_mounts world.calls world.site at.creds [] at.namespace at.spaces mounts.start at.own in
+    let there : World = solo world.calls world.site at.creds [] at.namespace at.spaces in
     let fits : length (mounts_of there at.namespace) + count ≤ 4096 = subst (λ (t : MountList). length t + count ≤ 4096) (sym same) (omega (arith, few)) in
     let room : HasRoomFor count there = fits in
     subst (HasRoomFor count) (sym (done.1 ∙ at.is)) room

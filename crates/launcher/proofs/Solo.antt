@@ -34,12 +34,14 @@ use Rattle.std.proofs.lemmas.List.{map-append}
 use Rattle.exec_settings.specs.abs_path.Paths.{is_root}
 use Rattle.kernel_laws.specs.kernel_model.Runs.{IsDone}
 use Rattle.kernel_laws.specs.kernel_model.declared.reply.Reply.TheVariants as w
-use Rattle.kernel_laws.specs.kernel_model.World.{World, has_mdwe, of_number, mounts_of, table_of, table_or, host_of, caller_of, owner_of, owner_or}
+use Rattle.kernel_laws.specs.kernel_model.MountNamespaces.{namespace_or, owned_by_first, with_other_table}
+use Rattle.kernel_laws.specs.kernel_model.World.{World, has_mdwe, of_number, namespace_of, mounts_of, table_of, host_of, caller_of, owner_of}
 use Rattle.kernel_laws.specs.kern_mounts.Copying.{copied}
+use Rattle.kernel_laws.specs.kernel_model.declared.mount_namespace.MountNamespace.{MountNamespace}
 use Rattle.kernel_laws.specs.kernel_model.declared.process.Process.{Process}
 use Rattle.kernel_laws.specs.kernel_model.declared.reply.Reply.{Reply}
 use Rattle.kernel_laws.specs.kernel_model.Step.{step, applied, answered, decided, data_of}
-use Rattle.kernel_laws.proofs.Numbered.{number_get, get_number, push_last, not_first}
+use Rattle.kernel_laws.proofs.Numbered.{number_get, push_last, not_first}
 use Rattle.kernel_laws.specs.linux_numbers.Errnos.{eacces, enomem, enospc, eperm}
 use Rattle.kernel_laws.specs.linux_numbers.Limits.{max_insns_per_path}
 use Rattle.kernel_laws.specs.linux_numbers.Capabilities.{cap_sys_admin}
@@ -68,48 +70,22 @@ module _ (table : calls.Table) (site : Site) where
   abbrev pub only : Creds → List (List Insn) → ℕ → Process
   only creds stack namespace = record { creds = creds; stack = stack; namespace = namespace; user = 1; alive = true }
 
-  -- each mount namespace belongs to the first user namespace
-  abbrev pub ones : List MountList → List ℕ
-  ones tables = map (λ mounts. 1) tables
-
-  abbrev pub solo : Creds → List (List Insn) → ℕ → List MountList → World
-  solo creds stack namespace tables =
-      record { calls = table; site = site; processes = only creds stack namespace ∷ []; tables = tables; owners = ones tables; users = 0 }
-
-  ones_push : (xs : List MountList) (t : MountList) → ones (xs ++ t ∷ []) ≡ ones xs ++ 1 ∷ []
-  ones_push [] t = refl
-  ones_push (x ∷ xs) t = ap (λ (os : List ℕ). 1 ∷ os) (ones_push xs t)
-
-  ones_set : (xs : List MountList) (i : ℕ) (t : MountList) → ones (slice_set xs i t) ≡ ones xs
-  ones_set [] i t = refl
-  ones_set (x ∷ xs) zero t = refl
-  ones_set (x ∷ xs) (suc i) t = ap (λ (os : List ℕ). 1 ∷ os) (ones_set xs i t)
-
-  ones_get : (xs : List MountList) (i : ℕ) (t : MountList) → slice_get xs i ≡ Some t → slice_get (ones xs) i ≡ Some 1
-  ones_get [] i t e = cc
-  ones_get (x ∷ xs) zero t e = refl
-  ones_get (x ∷ xs) (suc i) t e = ones_get xs i t e
-
-  pub ones_number : (xs : List MountList) (namespace : ℕ) (t : MountList) → of_number xs namespace ≡ Some t
-      → of_number (ones xs) namespace ≡ Some 1
-  ones_number xs namespace t e = let at = number_get xs namespace t e in get_number (ones xs) namespace 1 at.0 (ones_get xs (namespace - 1) t at.1)
-
-  pub ones_length : (xs : List MountList) → length (ones xs) ≡ length xs
-  ones_length [] = refl
-  ones_length (x ∷ xs) = ap suc (ones_length xs)
+  abbrev pub solo : Creds → List (List Insn) → ℕ → List MountNamespace → World
+  solo creds stack namespace spaces =
+      record { calls = table; site = site; processes = only creds stack namespace ∷ []; namespaces = spaces; users = 0 }
 
   -- process 1 lives alone, with such credentials, these programs and this mount table
   pub record At (Q : Creds → Type 0) (stack : List (List Insn)) (mounts : Table) (world : World) : Type 0 where
     pub creds : Creds
     pub namespace : ℕ
-    pub tables : List MountList
+    pub spaces : List MountNamespace
     pub as_asked : Q creds
-    pub is : world ≡ solo creds stack namespace tables
-    pub own : of_number tables namespace ≡ Some (map plain mounts)
+    pub is : world ≡ solo creds stack namespace spaces
+    pub own : of_number spaces namespace ≡ Some (owned_by_first (map plain mounts))
 
   pub weaker : (Q R : Creds → Type 0) (stack : List (List Insn)) (mounts : Table) (world : World) → ((creds : Creds) → Q creds → R creds)
       → At Q stack mounts world → At R stack mounts world
-  weaker Q R stack mounts world to at = record { creds = at.creds; namespace = at.namespace; tables = at.tables; as_asked = to at.creds at.as_asked; is = at.is; own = at.own }
+  weaker Q R stack mounts world to at = record { creds = at.creds; namespace = at.namespace; spaces = at.spaces; as_asked = to at.creds at.as_asked; is = at.is; own = at.own }
 
   -- a call that is done was let through
   let_through : (world : World) (call : Call) (process : Process) (decision' : Decision) → IsDone (decided world call process decision').0
@@ -124,9 +100,9 @@ module _ (table : calls.Table) (site : Site) where
   passed world call process (decision.Errno errno) done = absurd done
   passed world call process decision.Kill done = absurd done
 
-  module _ (creds : Creds) (stack : List (List Insn)) (namespace : ℕ) (tables : List MountList) where
+  module _ (creds : Creds) (stack : List (List Insn)) (namespace : ℕ) (spaces : List MountNamespace) where
     abbrev world : World
-    world = solo creds stack namespace tables
+    world = solo creds stack namespace spaces
 
     abbrev process : Process
     process = only creds stack namespace
@@ -143,14 +119,20 @@ module _ (table : calls.Table) (site : Site) where
         ∙ ap (λ (o : Option Operation). answered world 1 process (asked_if o)) is
 
     pub creds_done : (answer : Result Creds ℕ) → IsDone (applied world 1 process (creds_effect answer)).0
-        → (now : Creds) × (answer ≡ Ok now) × ((applied world 1 process (creds_effect answer)).1 ≡ solo now stack namespace tables)
+        → (now : Creds) × (answer ≡ Ok now) × ((applied world 1 process (creds_effect answer)).1 ≡ solo now stack namespace spaces)
     creds_done (Ok now) done = (now, refl, refl)
     creds_done (Err errno) done = absurd done
 
-    pub own_mounts : (mounts : Table) → of_number tables namespace ≡ Some (map plain mounts) → mounts_of world namespace ≡ map plain mounts
-    own_mounts mounts own = ap table_or own
+    pub own_space : (mounts : Table) → of_number spaces namespace ≡ Some (owned_by_first (map plain mounts))
+        → namespace_of world namespace ≡ owned_by_first (map plain mounts)
+    own_space mounts own = ap namespace_or own
 
-    pub own_table : (mounts : Table) → of_number tables namespace ≡ Some (map plain mounts) → table_of world namespace ≡ mounts
+    pub own_mounts : (mounts : Table) → of_number spaces namespace ≡ Some (owned_by_first (map plain mounts))
+        → mounts_of world namespace ≡ map plain mounts
+    own_mounts mounts own = ap (λ (n : MountNamespace). n.table) (own_space mounts own)
+
+    pub own_table : (mounts : Table) → of_number spaces namespace ≡ Some (owned_by_first (map plain mounts))
+        → table_of world namespace ≡ mounts
     own_table mounts own = ap (λ (t : MountList). steps_of t) (own_mounts mounts own) ∙ steps_plain mounts
 
   -- the host, as a rule sees it
@@ -170,16 +152,16 @@ module _ (table : calls.Table) (site : Site) where
       → IsDone (launch_step world' (makes table.calls name one two three payload)).0
       → At R stack mounts (launch_step world' (makes table.calls name one two three payload)).1
   makes_creds_here Q R name one two three payload rule' operation answer by_rule is effect to stack mounts world' at done =
-      let own : World = solo at.creds stack at.namespace at.tables in
+      let own : World = solo at.creds stack at.namespace at.spaces in
       let call : Call = first_call table.calls name (one ∷ two ∷ three ∷ 0 ∷ 0 ∷ 0 ∷ []) payload in
       let done' : IsDone (step own call).0 = subst (λ (v : World). IsDone (step v call).0) at.is done in
-      let stepped = does at.creds stack at.namespace at.tables call.nr call.args payload rule' operation by_rule is done'
+      let stepped = does at.creds stack at.namespace at.spaces call.nr call.args payload rule' operation by_rule is done'
       ∙ ap (λ (e : Effect). applied own 1 (only at.creds stack at.namespace) e) (effect at.creds stack (mounts_of own at.namespace) (eqb (owner_of own at.namespace) 1)) in
-      let found = creds_done at.creds stack at.namespace at.tables (answer at.creds) (subst (λ (out : Reply × World). IsDone out.0) stepped done') in
+      let found = creds_done at.creds stack at.namespace at.spaces (answer at.creds) (subst (λ (out : Reply × World). IsDone out.0) stepped done') in
       record {
         creds = found.0;
         namespace = at.namespace;
-        tables = at.tables;
+        spaces = at.spaces;
         as_asked = to at.creds found.0 at.as_asked found.1;
         is = ap (λ (v : World). (step v call).1) at.is ∙ ap (λ (out : Reply × World). out.1) stepped ∙ found.2;
         own = at.own;
@@ -201,35 +183,35 @@ module _ (table : calls.Table) (site : Site) where
       makes_creds_here Q R name one two three payload rule' operation answer by_rule is (effect own_host) to stack mounts world' at done
 
   -- a program that is pushed
-  push_done : (creds : Creds) (stack : List (List Insn)) (namespace : ℕ) (tables : List MountList) (read : Option (List Insn))
-      → IsDone (applied (solo creds stack namespace tables) 1 (only creds stack namespace) (push_effect stack read)).0
+  push_done : (creds : Creds) (stack : List (List Insn)) (namespace : ℕ) (spaces : List MountNamespace) (read : Option (List Insn))
+      → IsDone (applied (solo creds stack namespace spaces) 1 (only creds stack namespace) (push_effect stack read)).0
       → (code : List Insn) × (read ≡ Some code) ×
-      ((applied (solo creds stack namespace tables) 1 (only creds stack namespace) (push_effect stack read)).1
-      ≡ solo creds (stack ++ code ∷ []) namespace tables)
-  push_done creds stack namespace tables None done = absurd done
-  push_done creds stack namespace tables (Some code) done = by (nat_le (room_of stack + length code) max_insns_per_path) done
+      ((applied (solo creds stack namespace spaces) 1 (only creds stack namespace) (push_effect stack read)).1
+      ≡ solo creds (stack ++ code ∷ []) namespace spaces)
+  push_done creds stack namespace spaces None done = absurd done
+  push_done creds stack namespace spaces (Some code) done = by (nat_le (room_of stack + length code) max_insns_per_path) done
     where
-      by : (b : Bool) → IsDone (applied (solo creds stack namespace tables) 1 (only creds stack namespace)
+      by : (b : Bool) → IsDone (applied (solo creds stack namespace spaces) 1 (only creds stack namespace)
           (cond b (f.Push code) (f.Refuse enomem))).0
           → (c : List Insn) × (Some code ≡ Some c) ×
-          ((applied (solo creds stack namespace tables) 1 (only creds stack namespace) (cond b (f.Push code) (f.Refuse enomem))).1
-          ≡ solo creds (stack ++ c ∷ []) namespace tables)
+          ((applied (solo creds stack namespace spaces) 1 (only creds stack namespace) (cond b (f.Push code) (f.Refuse enomem))).1
+          ≡ solo creds (stack ++ c ∷ []) namespace spaces)
       by true done = (code, refl, refl)
       by false done = absurd done
 
-  seccomp_done : (creds : Creds) (stack : List (List Insn)) (namespace : ℕ) (tables : List MountList) (bytes : List ℕ)
-      → IsDone (applied (solo creds stack namespace tables) 1 (only creds stack namespace) (seccomp_effect creds stack 1 0 bytes)).0
+  seccomp_done : (creds : Creds) (stack : List (List Insn)) (namespace : ℕ) (spaces : List MountNamespace) (bytes : List ℕ)
+      → IsDone (applied (solo creds stack namespace spaces) 1 (only creds stack namespace) (seccomp_effect creds stack 1 0 bytes)).0
       → (code : List Insn) × (program_of bytes ≡ Some code) ×
-      ((applied (solo creds stack namespace tables) 1 (only creds stack namespace) (seccomp_effect creds stack 1 0 bytes)).1
-      ≡ solo creds (stack ++ code ∷ []) namespace tables)
-  seccomp_done creds stack namespace tables bytes done = by (creds.no_new_privs || has creds.effective cap_sys_admin) done
+      ((applied (solo creds stack namespace spaces) 1 (only creds stack namespace) (seccomp_effect creds stack 1 0 bytes)).1
+      ≡ solo creds (stack ++ code ∷ []) namespace spaces)
+  seccomp_done creds stack namespace spaces bytes done = by (creds.no_new_privs || has creds.effective cap_sys_admin) done
     where
-      by : (b : Bool) → IsDone (applied (solo creds stack namespace tables) 1 (only creds stack namespace)
+      by : (b : Bool) → IsDone (applied (solo creds stack namespace spaces) 1 (only creds stack namespace)
           (cond (not b) (f.Refuse eacces) (push_effect stack (program_of bytes)))).0
           → (code : List Insn) × (program_of bytes ≡ Some code) ×
-          ((applied (solo creds stack namespace tables) 1 (only creds stack namespace)
-          (cond (not b) (f.Refuse eacces) (push_effect stack (program_of bytes)))).1 ≡ solo creds (stack ++ code ∷ []) namespace tables)
-      by true done = push_done creds stack namespace tables (program_of bytes) done
+          ((applied (solo creds stack namespace spaces) 1 (only creds stack namespace)
+          (cond (not b) (f.Refuse eacces) (push_effect stack (program_of bytes)))).1 ≡ solo creds (stack ++ code ∷ []) namespace spaces)
+      by true done = push_done creds stack namespace spaces (program_of bytes) done
       by false done = absurd done
 
   pub record Pushed (Q : Creds → Type 0) (stack : List (List Insn)) (mounts : Table) (bytes : List ℕ) (world : World) : Type 0 where
@@ -246,18 +228,18 @@ module _ (table : calls.Table) (site : Site) where
       → IsDone (launch_step world' (seccomp_call bytes)).0
       → Pushed Q stack mounts bytes (launch_step world' (seccomp_call bytes)).1
   makes_push Q bytes by_rule stack mounts world' at done =
-      let own : World = solo at.creds stack at.namespace at.tables in
+      let own : World = solo at.creds stack at.namespace at.spaces in
       let call : Call = first_call table.calls (codes "seccomp") (1 ∷ 0 ∷ 0 ∷ 0 ∷ 0 ∷ 0 ∷ []) (Code bytes) in
       let done' : IsDone (step own call).0 = subst (λ (v : World). IsDone (step v call).0) at.is done in
-      let stepped = does at.creds stack at.namespace at.tables call.nr call.args (Code bytes) (rule.Known known.Seccomp) (d.Seccomp 1 0 bytes) by_rule refl done' in
-      let found = seccomp_done at.creds stack at.namespace at.tables bytes (subst (λ (out : Reply × World). IsDone out.0) stepped done') in
+      let stepped = does at.creds stack at.namespace at.spaces call.nr call.args (Code bytes) (rule.Known known.Seccomp) (d.Seccomp 1 0 bytes) by_rule refl done' in
+      let found = seccomp_done at.creds stack at.namespace at.spaces bytes (subst (λ (out : Reply × World). IsDone out.0) stepped done') in
       record {
         code = found.0;
         read = found.1;
         at = record {
           creds = at.creds;
           namespace = at.namespace;
-          tables = at.tables;
+          spaces = at.spaces;
           as_asked = at.as_asked;
           is = ap (λ (v : World). (step v call).1) at.is ∙ ap (λ (out : Reply × World). out.1) stepped ∙ found.2;
           own = at.own;
@@ -274,55 +256,47 @@ module _ (table : calls.Table) (site : Site) where
       → At Q stack mounts world'
       → At Q stack (with_entry mounts entry) (launch_step world' (Mounts entry)).1
   mounts_entry Q entry stack mounts world' at =
-      let made = number_get at.tables at.namespace (map plain mounts) at.own in
-      let next : MountList = map plain (with_entry mounts entry) in
+      let made = number_get at.spaces at.namespace (owned_by_first (map plain mounts)) at.own in
+      let next : MountNamespace = owned_by_first (map plain (with_entry mounts entry)) in
       record {
         creds = at.creds;
         namespace = at.namespace;
-        tables = slice_set at.tables (at.namespace - 1) next;
+        spaces = slice_set at.spaces (at.namespace - 1) next;
         as_asked = at.as_asked;
         is = ap (λ (v : World). (launch_step v (Mounts entry)).1) at.is
-            ∙ ap (λ (t : MountList). record (solo at.creds stack at.namespace at.tables)
-            { tables = slice_set at.tables (at.namespace - 1) (with_step t entry) })
-            (own_mounts at.creds stack at.namespace at.tables mounts at.own)
-            ∙ ap (λ (t : MountList). record (solo at.creds stack at.namespace at.tables)
-            { tables = slice_set at.tables (at.namespace - 1) t }) (step_plain mounts entry)
-            ∙ ap (λ (os : List ℕ). record (solo at.creds stack at.namespace at.tables)
-            { tables = slice_set at.tables (at.namespace - 1) next; owners = os }) (sym (ones_set at.tables (at.namespace - 1) next));
-        own = ap (λ (b : Bool). cond b None (slice_get (slice_set at.tables (at.namespace - 1) next) (at.namespace - 1))) made.0
-            ∙ get_set at.tables (at.namespace - 1) next (map plain mounts) made.1;
+            ∙ ap (λ (n : MountNamespace). record (solo at.creds stack at.namespace at.spaces)
+            { namespaces = slice_set at.spaces (at.namespace - 1) (with_other_table n (with_step n.table entry)) })
+            (own_space at.creds stack at.namespace at.spaces mounts at.own)
+            ∙ ap (λ (t : MountList). record (solo at.creds stack at.namespace at.spaces)
+            { namespaces = slice_set at.spaces (at.namespace - 1) (owned_by_first t) }) (step_plain mounts entry);
+        own = ap (λ (b : Bool). cond b None (slice_get (slice_set at.spaces (at.namespace - 1) next) (at.namespace - 1))) made.0
+            ∙ get_set at.spaces (at.namespace - 1) next (owned_by_first (map plain mounts)) made.1;
       }
 
   -- a namespace of its own
-  abbrev unshared : Creds → List (List Insn) → ℕ → List MountList → Effect → Type 0
-  unshared creds stack namespace tables effect =
-      IsDone (applied (solo creds stack namespace tables) 1 (only creds stack namespace) effect).0
-      → (applied (solo creds stack namespace tables) 1 (only creds stack namespace) effect).1
-      ≡ solo creds stack (length tables + 1) (tables ++ mounts_of (solo creds stack namespace tables) namespace ∷ [])
+  abbrev unshared : Creds → List (List Insn) → ℕ → List MountNamespace → Effect → Type 0
+  unshared creds stack namespace spaces effect =
+      IsDone (applied (solo creds stack namespace spaces) 1 (only creds stack namespace) effect).0
+      → (applied (solo creds stack namespace spaces) 1 (only creds stack namespace) effect).1
+      ≡ solo creds stack (length spaces + 1) (spaces ++ owned_by_first (mounts_of (solo creds stack namespace spaces) namespace) ∷ [])
 
-  abbrev after_with : Creds → List (List Insn) → ℕ → List MountList → ℕ → List ℕ → World
-  after_with creds stack namespace tables owner owners = record { calls = table; site = site; processes = only creds stack (length tables + 1) ∷ []; tables = tables ++ copied (not (eqb owner 1)) (mounts_of (solo creds stack namespace tables) namespace) ∷ []; owners = owners; users = 0 }
+  abbrev after_with : Creds → List (List Insn) → ℕ → List MountNamespace → ℕ → World
+  after_with creds stack namespace spaces owner = solo creds stack (length spaces + 1) (spaces ++ owned_by_first (copied (not (eqb owner 1)) (mounts_of (solo creds stack namespace spaces) namespace)) ∷ [])
 
-  own_done : (creds : Creds) (stack : List (List Insn)) (namespace : ℕ) (tables : List MountList)
-      → owner_of (solo creds stack namespace tables) namespace ≡ 1 → unshared creds stack namespace tables f.OwnTable
-  own_done creds stack namespace tables home done = by (nat_lt (length tables) 64) done
+  own_done : (creds : Creds) (stack : List (List Insn)) (namespace : ℕ) (spaces : List MountNamespace)
+      → owner_of (solo creds stack namespace spaces) namespace ≡ 1 → unshared creds stack namespace spaces f.OwnTable
+  own_done creds stack namespace spaces home done = by (nat_lt (length spaces) 64) done
     where
-      is_after : after_with creds stack namespace tables (owner_of (solo creds stack namespace tables) namespace) (ones tables ++ 1 ∷ [])
-          ≡ solo creds stack (length tables + 1) (tables ++ mounts_of (solo creds stack namespace tables) namespace ∷ [])
-      is_after = ap (λ (o : ℕ). after_with creds stack namespace tables o (ones tables ++ 1 ∷ [])) home
-          ∙ ap (after_with creds stack namespace tables 1)
-          (sym (ones_push tables (mounts_of (solo creds stack namespace tables) namespace)))
-
-      by : (b : Bool) → IsDone (cond {A = Reply × World} b (w.Done 0, after_with creds stack namespace tables (owner_of (solo creds stack namespace tables) namespace) (ones tables ++ 1 ∷ [])) (w.Refused enospc, solo creds stack namespace tables)).0
-          → (cond {A = Reply × World} b (w.Done 0, after_with creds stack namespace tables (owner_of (solo creds stack namespace tables) namespace) (ones tables ++ 1 ∷ [])) (w.Refused enospc, solo creds stack namespace tables)).1 ≡ solo creds stack (length tables + 1) (tables ++ mounts_of (solo creds stack namespace tables) namespace ∷ [])
-      by true done = is_after
+      by : (b : Bool) → IsDone (cond {A = Reply × World} b (w.Done 0, after_with creds stack namespace spaces (owner_of (solo creds stack namespace spaces) namespace)) (w.Refused enospc, solo creds stack namespace spaces)).0
+          → (cond {A = Reply × World} b (w.Done 0, after_with creds stack namespace spaces (owner_of (solo creds stack namespace spaces) namespace)) (w.Refused enospc, solo creds stack namespace spaces)).1 ≡ solo creds stack (length spaces + 1) (spaces ++ owned_by_first (mounts_of (solo creds stack namespace spaces) namespace) ∷ [])
+      by true done = ap (after_with creds stack namespace spaces) home
       by false done = absurd done
 
-  admin_done : (creds : Creds) (stack : List (List Insn)) (namespace : ℕ) (tables : List MountList)
-      → owner_of (solo creds stack namespace tables) namespace ≡ 1 → (b : Bool)
-      → unshared creds stack namespace tables (cond b f.OwnTable (f.Refuse eperm))
-  admin_done creds stack namespace tables home true done = own_done creds stack namespace tables home done
-  admin_done creds stack namespace tables home false done = absurd done
+  admin_done : (creds : Creds) (stack : List (List Insn)) (namespace : ℕ) (spaces : List MountNamespace)
+      → owner_of (solo creds stack namespace spaces) namespace ≡ 1 → (b : Bool)
+      → unshared creds stack namespace spaces (cond b f.OwnTable (f.Refuse eperm))
+  admin_done creds stack namespace spaces home true done = own_done creds stack namespace spaces home done
+  admin_done creds stack namespace spaces home false done = absurd done
 
   abbrev pub unshare_call : LaunchStep
   unshare_call = makes table.calls (codes "unshare") new_mounts 0 0 Nothing
@@ -331,20 +305,20 @@ module _ (table : calls.Table) (site : Site) where
       → (stack : List (List Insn)) (mounts : Table) (world' : World) → At Q stack mounts world' → IsDone (launch_step world' unshare_call).0
       → At Q stack mounts (launch_step world' unshare_call).1
   makes_unshare Q by_rule stack mounts world' at done =
-      let own : World = solo at.creds stack at.namespace at.tables in
+      let own : World = solo at.creds stack at.namespace at.spaces in
       let call : Call = first_call table.calls (codes "unshare") (new_mounts ∷ 0 ∷ 0 ∷ 0 ∷ 0 ∷ 0 ∷ []) Nothing in
       let done' : IsDone (step own call).0 = subst (λ (v : World). IsDone (step v call).0) at.is done in
-      let stepped = does at.creds stack at.namespace at.tables call.nr call.args Nothing (rule.Known known.Unshare) (d.Unshare new_mounts) by_rule refl done' in
-      let home = ap owner_or (ones_number at.tables at.namespace (map plain mounts) at.own) in
-      let after = admin_done at.creds stack at.namespace at.tables home (has at.creds.effective cap_sys_admin) (subst (λ (out : Reply × World). IsDone out.0) stepped done') in
+      let stepped = does at.creds stack at.namespace at.spaces call.nr call.args Nothing (rule.Known known.Unshare) (d.Unshare new_mounts) by_rule refl done' in
+      let home = ap (λ (n : MountNamespace). n.owner) (own_space at.creds stack at.namespace at.spaces mounts at.own) in
+      let after = admin_done at.creds stack at.namespace at.spaces home (has at.creds.effective cap_sys_admin) (subst (λ (out : Reply × World). IsDone out.0) stepped done') in
       record {
         creds = at.creds;
-        namespace = length at.tables + 1;
-        tables = at.tables ++ map plain mounts ∷ [];
+        namespace = length at.spaces + 1;
+        spaces = at.spaces ++ owned_by_first (map plain mounts) ∷ [];
         as_asked = at.as_asked;
         is = ap (λ (v : World). (step v call).1) at.is ∙ ap (λ (out : Reply × World). out.1) stepped ∙ after
-            ∙ ap (λ (t : MountList). solo at.creds stack (length at.tables + 1) (at.tables ++ t ∷ []))
-            (own_mounts at.creds stack at.namespace at.tables mounts at.own);
-        own = ap (λ (b : Bool). cond b None (slice_get (at.tables ++ map plain mounts ∷ []) (length at.tables + 1 - 1)))
-            (not_first (length at.tables)) ∙ push_last at.tables (map plain mounts);
+            ∙ ap (λ (t : MountList). solo at.creds stack (length at.spaces + 1) (at.spaces ++ owned_by_first t ∷ []))
+            (own_mounts at.creds stack at.namespace at.spaces mounts at.own);
+        own = ap (λ (b : Bool). cond b None (slice_get (at.spaces ++ owned_by_first (map plain mounts) ∷ []) (length at.spaces + 1 - 1)))
+            (not_first (length at.spaces)) ∙ push_last at.spaces (owned_by_first (map plain mounts));
       }

@@ -16,6 +16,7 @@ use Rattle.kernel_laws.specs.kernel_model.declared.kernel_calls.rule.Rule.TheVar
 use Rattle.kernel_laws.specs.kernel_model.kernel_calls.Rules.{rule_at}
 use Rattle.kernel_laws.specs.Kinds.{no_words}
 use Rattle.kernel_laws.specs.Launched.{launch_of, passes}
+use Rattle.kernel_laws.specs.kernel_model.MountNamespaces.{owned_by_first}
 use Rattle.kernel_laws.specs.kernel_model.World.{World, of_number}
 use Rattle.kernel_laws.specs.linux_numbers.Limits.{no_id}
 use Rattle.mount_plan.specs.Host.{host_of}
@@ -63,9 +64,7 @@ pub record Leaves (table : calls.Table) (site : Site) (wanted : Wanted) (plan : 
   pub namespace : ℕ
   pub is : launch_of last ≡ record { calls = table; site = site; creds = creds; stack = stack; table = plan }
   pub alone : last.processes ≡ record { creds = creds; stack = stack; namespace = namespace; user = 1; alive = true } ∷ []
-  pub own : of_number last.tables namespace ≡ Some (map plain plan)
-  pub home : of_number last.owners namespace ≡ Some 1
-  pub numbers : length last.owners ≡ length last.tables
+  pub own : of_number last.namespaces namespace ≡ Some (owned_by_first (map plain plan))
   pub no_users : last.users ≡ 0
   pub as_launched : IsLaunchedCreds (held_if wanted.keeps_capabilities) creds
   -- capset(2) gave up what was kept, so the filters let it pass

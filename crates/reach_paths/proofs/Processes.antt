@@ -1,6 +1,6 @@
 -- A process that may mount makes the tables that the rules make of its own, call by call.
 use Rattle.std.proofs.Common.{◌≡◌, ◌∙◌, ℕ, zero, suc, Bool, true, false, List, [], ◌∷◌, ◌++◌, Some, Ok, refl, cond, ap, sym, subst, arith}
-use Rattle.std.proofs.Common.{map}
+use Rattle.std.proofs.Common.{map, eqb, Option}
 use Rattle.std.specs.Prelude.{slice_get, slice_set, ◌-◌}
 use Rattle.std.specs.List.{AllByRecursion}
 use Rattle.kernel_laws.specs.abs_path.Paths.{Path, proc}
@@ -20,7 +20,9 @@ use Rattle.kernel_laws.specs.kernel_model.declared.kernel_calls.call.Call.{Call}
 use Rattle.kernel_laws.specs.kernel_model.Effects.{Effect, Refuse, SetTable, table_effect, effect_of}
 use Rattle.kernel_laws.specs.kernel_model.Runs.{moments, run, IsDone, AllDone}
 use Rattle.kernel_laws.specs.kernel_model.Step.{step, step_by, decided, answered, applied}
-use Rattle.kernel_laws.specs.kernel_model.World.{World, living_of, mounts_of, table_or, with_table, host_of, caller_of}
+use Rattle.kernel_laws.specs.kernel_model.MountNamespaces.{namespace_or, with_other_table}
+use Rattle.kernel_laws.specs.kernel_model.World.{World, living_of, namespace_of, mounts_of, owner_of, with_table, host_of, caller_of}
+use Rattle.kernel_laws.specs.kernel_model.declared.mount_namespace.MountNamespace.{MountNamespace}
 use Rattle.kernel_laws.specs.kernel_model.declared.process.Process.{Process}
 use Rattle.kernel_laws.specs.kernel_model.declared.reply.Reply.{Reply}
 use Rattle.kernel_laws.specs.kernel_model.declared.reply.Reply.TheVariants.{Done}
@@ -37,7 +39,10 @@ put_own (z ∷ xs) (suc i) x y e = put_own xs i x y e
 
 module _ (world : World) (pid : ℕ) (process : Process) (table : Table) (can : CanMount world pid process table) where
   mounts_are : mounts_of world process.namespace ≡ map plain table
-  mounts_are = ap table_or can.own
+  mounts_are = ap (λ (o : Option MountNamespace). (namespace_or o).table) can.own ∙ can.mounts
+
+  owns_it : (eqb (owner_of world process.namespace) process.user) ≡ true
+  owns_it = ap (λ (o : Option MountNamespace). eqb (namespace_or o).owner process.user) can.own ∙ can.owns
 
   -- the world in which the namespace has another table
   abbrev after : Table → World
@@ -45,13 +50,16 @@ module _ (world : World) (pid : ℕ) (process : Process) (table : Table) (can : 
 
   still_can : (next : Table) → CanMount (after next) pid process next
   still_can next =
-      let at = number_get world.tables process.namespace (map plain table) can.own in
+      let at = number_get world.namespaces process.namespace can.space can.own in
+      let there : MountNamespace = with_other_table (namespace_of world process.namespace) (map plain next) in
       record {
         lives = can.lives;
         admin = can.admin;
-        owns = can.owns;
-        own = get_number (slice_set world.tables (process.namespace - 1) (map plain next)) process.namespace (map plain next) at.0
-            (put_own world.tables (process.namespace - 1) (map plain table) (map plain next) at.1);
+        space = there;
+        own = get_number (slice_set world.namespaces (process.namespace - 1) there) process.namespace there at.0
+            (put_own world.namespaces (process.namespace - 1) can.space there at.1);
+        owns = owns_it;
+        mounts = refl;
       }
 
   -- a call that asks for a change of the table makes it
@@ -71,7 +79,7 @@ module _ (world : World) (pid : ℕ) (process : Process) (table : Table) (can : 
       ap (λ b. cond {A = Effect} b
       (cond (has process.creds.effective 21)
       (table_effect (after_mount (row_at world.site.rows) (mounts_of world process.namespace) source target flags)) (Refuse 1))
-      (Refuse 1)) can.owns
+      (Refuse 1)) owns_it
       ∙ ap (λ b. cond {A = Effect} b
       (table_effect (after_mount (row_at world.site.rows) (mounts_of world process.namespace) source target flags)) (Refuse 1))
       can.admin
@@ -89,7 +97,7 @@ module _ (world : World) (pid : ℕ) (process : Process) (table : Table) (can : 
       ap (λ b. cond {A = Effect} b
       (cond (has process.creds.effective 21)
       (table_effect (umount_answer (mounts_of world process.namespace) path (umount_flags detach))) (Refuse 1)) (Refuse 1))
-      can.owns
+      owns_it
       ∙ ap (λ b. cond {A = Effect} b (table_effect (umount_answer (mounts_of world process.namespace) path (umount_flags detach)))
       (Refuse 1)) can.admin
       ∙ ap (λ (t : Mounts). table_effect (umount_answer t path (umount_flags detach))) mounts_are

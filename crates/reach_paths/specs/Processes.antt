@@ -18,7 +18,8 @@ use Rattle.kernel_laws.specs.kernel_model.kernel_calls.Operation.{Operation, Mou
 use Rattle.kernel_laws.specs.kernel_model.declared.kernel_calls.call.Call.{Call}
 use Rattle.kernel_laws.specs.kernel_model.Runs.{moments, run, AllDone}
 use Rattle.kernel_laws.specs.kernel_model.Step.{decision_of}
-use Rattle.kernel_laws.specs.kernel_model.World.{World, living_of, of_number, owner_of}
+use Rattle.kernel_laws.specs.kernel_model.World.{World, living_of, of_number}
+use Rattle.kernel_laws.specs.kernel_model.declared.mount_namespace.MountNamespace.{MountNamespace}
 use Rattle.kernel_laws.specs.kernel_model.declared.process.Process.{Process}
 use Rattle.reach_paths.specs.Finding.{dirs_of}
 use Rattle.reach_paths.specs.Mounting.{IsBelowProc}
@@ -28,8 +29,11 @@ use Rattle.reach_paths.specs.Mounting.{IsBelowProc}
 pub record CanMount (world : World) (pid : ℕ) (process : Process) (table : Table) : Type 0 where
   pub lives : living_of world pid ≡ Some process
   pub admin : has process.creds.effective cap_sys_admin ≡ true
-  pub owns : (owner_of world process.namespace == process.user) ≡ true
-  pub own : of_number world.tables process.namespace ≡ Some (map plain table)
+  -- its mount namespace
+  pub space : MountNamespace
+  pub own : of_number world.namespaces process.namespace ≡ Some space
+  pub owns : (space.owner == process.user) ≡ true
+  pub mounts : space.table ≡ map plain table
 
 -- a call of the process that asks for this, and that its filters let through
 pub record AsksFor (world : World) (pid : ℕ) (process : Process) (call : Call) (operation : Operation) : Type 0 where

@@ -15,7 +15,7 @@ use Rattle.launcher.specs.kernel_model.declared.kern_files.program.Program.{Prog
 use Rattle.launcher.specs.kern_mounts.declared.step.Flags.{Flags}
 use Rattle.launcher.specs.kern_mounts.Finds.{finds}
 use Rattle.launcher.specs.kern_mounts.Table as mounts
-use Rattle.launcher.specs.kern_mounts.Mounts.{Mounts as MountList, first_mounts}
+use Rattle.launcher.specs.kern_mounts.Mounts.{Mounts as MountList}
 use Rattle.launcher.specs.kern_mounts.Split.{Table}
 use Rattle.launcher.specs.kernel_model.declared.kernel_calls.call.Call.{Call}
 use Rattle.launcher.specs.kernel_model.declared.kernel_calls.payload.Payload.{Payload}
@@ -28,7 +28,9 @@ use Rattle.launcher.specs.kernel_model.kernel_calls.Operation.{Operation, operat
 use Rattle.launcher.specs.kernel_laws.Questions.{if_so}
 use Rattle.launcher.specs.kernel_model.Effects as f
 use Rattle.launcher.specs.kernel_model.Effects.{Effect, Host, Caller, effect_of, creds_effect}
+use Rattle.launcher.specs.kernel_model.declared.mount_namespace.MountNamespace.{MountNamespace}
 use Rattle.launcher.specs.kernel_model.declared.process.Process.{Process}
+use Rattle.launcher.specs.kernel_model.MountNamespaces.{first_namespace}
 use Rattle.launcher.specs.kernel_model.declared.reply.Reply.{Reply}
 use Rattle.launcher.specs.kernel_model.Runs.{IsDone}
 use Rattle.launcher.specs.kernel_model.Step.{step, applied, answered}
@@ -47,15 +49,15 @@ use Rattle.sample_inputs.proofs.Going.{Goes, goes_once}
 use Rattle.sample_inputs.proofs.Granted.{full, exec_granted}
 
 module _ (table : calls.Table) (site : Site) where
-  passes : (creds : Creds) (namespace : ℕ) (tables : List MountList) (nr : ℕ) (args : List ℕ) (payload : Payload) (rule' : Rule)
+  passes : (creds : Creds) (namespace : ℕ) (spaces : List MountNamespace) (nr : ℕ) (args : List ℕ) (payload : Payload) (rule' : Rule)
       (operation : Operation)
       → rule_at table.calls nr ≡ Some rule' → operation_by rule' args payload ≡ Some operation
-      → step (solo table site creds [] namespace tables) (record { pid = 1; abi = 0; nr = nr; args = args; payload = payload })
-      ≡ applied (solo table site creds [] namespace tables) 1 (only table site creds [] namespace)
-      (effect_of (host_of (solo table site creds [] namespace tables))
-      (caller_of (solo table site creds [] namespace tables) (only table site creds [] namespace)) operation)
-  passes creds namespace tables nr args payload rule' operation by_rule is =
-      let own : World = solo table site creds [] namespace tables in
+      → step (solo table site creds [] namespace spaces) (record { pid = 1; abi = 0; nr = nr; args = args; payload = payload })
+      ≡ applied (solo table site creds [] namespace spaces) 1 (only table site creds [] namespace)
+      (effect_of (host_of (solo table site creds [] namespace spaces))
+      (caller_of (solo table site creds [] namespace spaces) (only table site creds [] namespace)) operation)
+  passes creds namespace spaces nr args payload rule' operation by_rule is =
+      let own : World = solo table site creds [] namespace spaces in
       let call : Call = record { pid = 1; abi = 0; nr = nr; args = args; payload = payload } in
       ap (λ (o : Option Rule). answered own 1 (only table site creds [] namespace) (asked_by o call)) by_rule
       ∙ ap (λ (o : Option Operation). answered own 1 (only table site creds [] namespace) (asked_if o)) is
@@ -72,11 +74,11 @@ module _ (table : calls.Table) (site : Site) where
       → (plan : Table) (world : World) → At table site Q [] plan world
       → Goes (At table site R [] plan) world (makes table.calls name one two three payload ∷ [])
   goes_creds Q R name one two three payload rule' operation answer made by_rule is effect may to plan world at =
-      let own : World = solo table site at.creds [] at.namespace at.tables in
+      let own : World = solo table site at.creds [] at.namespace at.spaces in
       let process : Process = only table site at.creds [] at.namespace in
       let call : Call = first_call table.calls name (one ∷ two ∷ three ∷ 0 ∷ 0 ∷ 0 ∷ []) payload in
       let stepped = ap (λ (v : World). step v call) at.is
-      ∙ passes at.creds at.namespace at.tables call.nr call.args payload rule' operation by_rule is
+      ∙ passes at.creds at.namespace at.spaces call.nr call.args payload rule' operation by_rule is
       ∙ ap (λ (e : Effect). applied own 1 process e)
       (effect (host_of own) process (caller_of own process).table (caller_of own process).owns)
       ∙ ap (λ (a : Result Creds ℕ). applied own 1 process (creds_effect a)) (may at.creds at.as_asked) in
@@ -85,7 +87,7 @@ module _ (table : calls.Table) (site : Site) where
       (record {
         creds = made at.creds;
         namespace = at.namespace;
-        tables = at.tables;
+        spaces = at.spaces;
         as_asked = to at.creds at.as_asked;
         is = ap (λ (out : Reply × World). out.1) stepped;
         own = at.own;
@@ -101,7 +103,7 @@ module _ (table : calls.Table) (site : Site) where
         let own : World = start_world table site in
         let process : Process = only table site creds.start [] 1 in
         let call : Call = first_call table.calls (codes "unshare") (new_mounts ∷ 0 ∷ 0 ∷ 0 ∷ 0 ∷ 0 ∷ []) Nothing in
-        let stepped = passes creds.start 1 (first_mounts ∷ []) call.nr call.args Nothing (rule.Known known.Unshare) (d.Unshare new_mounts) calls'.unshare refl
+        let stepped = passes creds.start 1 (first_namespace ∷ []) call.nr call.args Nothing (rule.Known known.Unshare) (d.Unshare new_mounts) calls'.unshare refl
         ∙ ap (λ b. applied own 1 process (cond b f.OwnTable (f.Refuse 1))) (full all 21 refl refl) in
         subst (λ (out : Reply × World). IsDone out.0) (sym stepped) tt
 
@@ -129,7 +131,7 @@ module _ (table : calls.Table) (site : Site) where
     pub goes_mounts : (Q : Creds → Type 0) (plan : Table) → BeginsAtHostRoot plan → Q creds.start
         → Goes (At table site Q [] plan) (start_world table site) (with_unshare table.calls (mount_steps plan))
     goes_mounts Q plan begins starts =
-        let start : At table site Q [] mounts.start (start_world table site) = record { creds = creds.start; namespace = 1; tables = first_mounts ∷ []; as_asked = starts; is = refl; own = refl } in
+        let start : At table site Q [] mounts.start (start_world table site) = record { creds = creds.start; namespace = 1; spaces = first_namespace ∷ []; as_asked = starts; is = refl; own = refl } in
         let made = planned plan in
         record { last = made.0; leads = made.1; holds = plan_mounted table site calls' Q [] plan (start_world table site) made.0 begins start made.1 }
 
@@ -152,14 +154,14 @@ module _ (table : calls.Table) (site : Site) where
         → At table site Q [] plan world
         → (last : World) × Leads world (program_steps table.calls program) last
     runs_program Q plan program world shows at =
-        let own : World = solo table site at.creds [] at.namespace at.tables in
+        let own : World = solo table site at.creds [] at.namespace at.spaces in
         let process : Process = only table site at.creds [] at.namespace in
         let call : Call = first_call table.calls (codes "execve") (0 ∷ 0 ∷ 0 ∷ 0 ∷ 0 ∷ 0 ∷ []) (OnePath program) in
         let stepped = ap (λ (v : World). step v call) at.is
-        ∙ passes at.creds at.namespace at.tables call.nr call.args (OnePath program) (rule.Known known.Execve)
+        ∙ passes at.creds at.namespace at.spaces call.nr call.args (OnePath program) (rule.Known known.Execve)
         (d.Execve program) calls'.execve refl
         ∙ ap (λ (t : Table). applied own 1 process
         (creds_effect (exec_answer at.creds (flags_at t program) (finds (row_at site.rows) t program))))
-        (own_table table site at.creds [] at.namespace at.tables plan at.own)
+        (own_table table site at.creds [] at.namespace at.spaces plan at.own)
         ∙ ap (λ (a : Result Creds ℕ). applied own 1 process (creds_effect a)) (runs at.creds plan program shows) in
         ((step world call).1, (subst (λ (out : Reply × World). IsDone out.0) (sym stepped) tt, refl))

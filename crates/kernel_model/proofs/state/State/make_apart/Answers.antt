@@ -2,10 +2,10 @@ use Rattle.std.proofs.Common.{rules}
 use Rattle.kernel_model.proofs.Apart.{made_apart}
 use Rattle.kernel_model.proofs.state.State.make_apart.Goals as goal
 
-pub returns-in-Ok-push-clause-makes : goal.returns-in-Ok-push-clause-makes
-returns-in-Ok-push-clause-makes c =
-    made_apart _ c.args.self.now c.self.view_is c.args.place c.table_place-at.result c.index.result.now c.index-2.result.now c.in_ok-child.child c.reserve.new.self.items c.reserve-2.new.self.items c.in_ok-table.table c.push.new.self.items c.push-2.new.self.items c.push-in-Ok.new.self.items _ _
-    c.requires.room c.requires.space c.table_place-at.ensures.there c.requires.owned c.table_place-at.ensures.of_the_namespace
-    c.index.ensures c.index-2.ensures c.in_ok-child.ensures c.in_ok-table.ensures.copies c.in_ok-reserve.ensures.items
-    c.in_ok-reserve-2.ensures.items (search rules)
-    c.in_ok-push.ensures.items c.in-Ok.ensures.items c.in-Ok-push.ensures.items (search rules)
+pub returns-clause-makes : goal.returns-clause-makes
+returns-clause-makes c =
+    made_apart _ c.args.self.now c.self.view_is c.args.place c.namespace_place-at.result c.index.result.now c.index-2.result.now
+    c.in_ok-child.child c.reserve.new.self.items c.push.new.self.items c.add_copy.new.namespaces.items _ _
+    c.requires.room c.requires.space c.namespace_place-at.ensures.there c.namespace_place-at.ensures.of_the_namespace
+    c.index.ensures c.index-2.ensures c.in_ok-child.ensures (search rules) c.in_ok-reserve.ensures.items c.in_ok-add_copy.ensures.adds
+    c.in_ok-push.ensures.items (search rules)

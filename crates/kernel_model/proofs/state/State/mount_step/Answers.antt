@@ -3,11 +3,11 @@ use Rattle.kernel_model.proofs.state.State.mount_step.Goals as goal
 
 pub mount_step-requires-clause-room : goal.mount_step-requires-clause-room
 mount_step-requires-clause-room c =
-    room_there _ c.args.self.now c.self.view_is c.args.place c.table_place-at.result c.index_mut.result.now c.requires.there
-    c.table_place-at.ensures.there c.index_mut.ensures.value c.table_place-at.ensures.of_the_namespace c.requires.room
+    room_there _ c.args.self.now c.self.view_is c.args.place c.namespace_place-at.result c.index_mut.result.now c.requires.there
+    c.namespace_place-at.ensures.there c.index_mut.ensures.value c.namespace_place-at.ensures.of_the_namespace c.requires.room
 
 pub returns-clause-steps : goal.returns-clause-steps
 returns-clause-steps c =
-    stepped_there _ c.args.self.now c.self.view_is c.args.place c.table_place-at.result c.index_mut.result.now c.mount_step.new.table
-    c.args.step.now c.mount_step.result c.table_place-at.ensures.there c.index_mut.ensures.value
-    c.table_place-at.ensures.of_the_namespace c.mount_step.ensures.steps
+    stepped_there _ c.args.self.now c.self.view_is c.args.place c.namespace_place-at.result c.index_mut.result.now c.mount_step.new.table
+    c.args.step.now c.mount_step.result c.namespace_place-at.ensures.there c.index_mut.ensures.value
+    c.namespace_place-at.ensures.of_the_namespace c.mount_step.ensures.steps

@@ -1,6 +1,6 @@
 use Rattle.kernel_model.specs.kernel_calls.Seen.{seen}
 use Rattle.kernel_model.proofs.Lifts.{effect_at, replied_there, child_made, table_made, child_ready, table_ready, child_same, table_same}
-use Rattle.kernel_model.proofs.Lifts.{there_too, spaces_too, stays_too, owned_too, user_child_made, own_user_made, user_child_ready}
+use Rattle.kernel_model.proofs.Lifts.{there_too, spaces_too, stays_too, user_child_made, own_user_made, user_child_ready}
 use Rattle.kernel_model.proofs.Lifts.{own_user_ready, user_child_same, own_user_same}
 use Rattle.kernel_model.proofs.state.State.perform.Goals as goal
 
@@ -68,15 +68,6 @@ returns-in-MakesTable-clause-stays c =
     (table_same c.in_ok-reply.field-0 c.in-MakesTable.is c.in_ok-reply.ensures.stays_where_more_is_to_be_made)
     c.make_table.ensures.stays
 
-pub make_child-requires-clause-owned : goal.make_child-requires-clause-owned
-make_child-requires-clause-owned c = owned_too c.perform_there.new.self c.args.self.now
-    (child_same c.in_ok-reply.field-0 c.in-MakesChild.own c.in-MakesChild.is c.in_ok-reply.ensures.stays_where_more_is_to_be_made)
-    c.requires.owned
-
-pub make_table-requires-clause-owned : goal.make_table-requires-clause-owned
-make_table-requires-clause-owned c = owned_too c.perform_there.new.self c.args.self.now
-    (table_same c.in_ok-reply.field-0 c.in-MakesTable.is c.in_ok-reply.ensures.stays_where_more_is_to_be_made) c.requires.owned
-
 pub make_user_child-requires-clause-there : goal.make_user_child-requires-clause-there
 make_user_child-requires-clause-there c = there_too c.perform_there.new.self c.args.self.now c.args.place
     (user_child_same c.in_ok-reply.field-0 c.in-MakesUserChild.own c.in-MakesUserChild.is
@@ -86,11 +77,6 @@ pub make_user_child-requires-clause-spaces : goal.make_user_child-requires-claus
 make_user_child-requires-clause-spaces c = spaces_too c.perform_there.new.self c.args.self.now
     (user_child_same c.in_ok-reply.field-0 c.in-MakesUserChild.own c.in-MakesUserChild.is
     c.in_ok-reply.ensures.stays_where_more_is_to_be_made) c.requires.spaces
-
-pub make_user_child-requires-clause-owned : goal.make_user_child-requires-clause-owned
-make_user_child-requires-clause-owned c = owned_too c.perform_there.new.self c.args.self.now
-    (user_child_same c.in_ok-reply.field-0 c.in-MakesUserChild.own c.in-MakesUserChild.is
-    c.in_ok-reply.ensures.stays_where_more_is_to_be_made) c.requires.owned
 
 pub returns-in-MakesUserChild-clause-performs : goal.returns-in-MakesUserChild-clause-performs
 returns-in-MakesUserChild-clause-performs c =
@@ -121,11 +107,6 @@ pub make_own_user-requires-clause-spaces : goal.make_own_user-requires-clause-sp
 make_own_user-requires-clause-spaces c = spaces_too c.perform_there.new.self c.args.self.now
     (own_user_same c.in_ok-reply.field-0 c.in-MakesOwnUser.own c.in-MakesOwnUser.is c.in_ok-reply.ensures.stays_where_more_is_to_be_made)
     c.requires.spaces
-
-pub make_own_user-requires-clause-owned : goal.make_own_user-requires-clause-owned
-make_own_user-requires-clause-owned c = owned_too c.perform_there.new.self c.args.self.now
-    (own_user_same c.in_ok-reply.field-0 c.in-MakesOwnUser.own c.in-MakesOwnUser.is c.in_ok-reply.ensures.stays_where_more_is_to_be_made)
-    c.requires.owned
 
 pub returns-in-MakesOwnUser-clause-performs : goal.returns-in-MakesOwnUser-clause-performs
 returns-in-MakesOwnUser-clause-performs c =
