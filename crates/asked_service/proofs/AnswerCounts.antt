@@ -1,5 +1,5 @@
 -- How many answers there are, and how many pass a test.
-use Rattle.std.proofs.Common.{◌≡◌, ◌∙◌, ℕ, suc, ◌+◌, ◌≤◌, Bool, true, false, List, [], ◌∷◌, length, ap, refl, sym, arith}
+use Rattle.std.proofs.Common.{◌≡◌, ◌∙◌, suc, ◌+◌, ◌≤◌, Bool, true, false, List, [], ◌∷◌, length, ap, refl, sym, arith}
 use Rattle.std.specs.Prelude.{cond, filter, not}
 use Rattle.std.proofs.lemmas.List.{length-map}
 use Rattle.judge.specs.kernel_laws.Questions.{questions}

@@ -1,5 +1,5 @@
 -- The changes by the rules are those that are.
-use Rattle.std.proofs.Common.{◌≡◌, Bool, true, false, List, [], ◌∷◌, ◌++◌, ap, ap₂, refl, subst}
+use Rattle.std.proofs.Common.{◌≡◌, Bool, true, false, List, [], ◌∷◌, ◌++◌, ap₂, refl, subst}
 use Rattle.std.specs.Prelude.{◌&&◌, flat_map, map, if◌then◌else◌}
 use Rattle.std.specs.List.{AllByRecursion}
 use Rattle.judge.specs.abs_path.ByteOrder.{AreAscending, is_before}
@@ -15,12 +15,11 @@ use Rattle.judge.specs.kernel_laws.Questions.{questions}
 use Rattle.judge.specs.kernel_model.World.{World}
 use Rattle.judge.specs.kernel_ways.Blindness.{BlindIsExact}
 use Rattle.judge.specs.kernel_ways.Laws.{IsServedWorld}
-use Rattle.judge.specs.kernel_ways.Offers.{RunsProgram}
 use Rattle.judge.specs.site_table.Kinds.{is_dir}
 use Rattle.judge.specs.site_table.Table.{IsRowOf, Site}
 use Rattle.judge.specs.site_table.declared.row.Row.{Row}
 use Rattle.asked_service.specs.verdict_changes.ByRule.{ChangesAreTrue, blind_change, question_change, row_change, verdict_change}
-use Rattle.asked_service.specs.verdict_changes.Changes.{AreChanges, Change, ChangesFolders, ChangesVerdicts, both_blind, both_denied}
+use Rattle.asked_service.specs.verdict_changes.Changes.{Change, ChangesFolders, ChangesVerdicts, both_blind, both_denied}
 use Rattle.asked_service.specs.verdict_changes.Changes.{both_open, both_seen, closed, folder_in, hidden, no_folder, no_question, no_row}
 use Rattle.asked_service.specs.verdict_changes.Changes.{opened, shown}
 

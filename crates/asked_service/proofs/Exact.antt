@@ -1,5 +1,5 @@
 -- The verdicts by the rule are so.
-use Rattle.std.proofs.Common.{◌≡◌, ◌∙◌, ℕ, zero, suc, ◌<◌, Bool, true, false, List, [], ◌∷◌, arith, get_or, map, ap, ap₂, refl, sym, subst}
+use Rattle.std.proofs.Common.{◌≡◌, ◌∙◌, zero, suc, Bool, true, false, List, [], ◌∷◌, arith, map, ap, refl, sym, subst}
 use Rattle.std.specs.Prelude.{◌↔◌, Contains}
 use Rattle.std.specs.List.{AllByRecursion}
 use Rattle.judge.specs.kernel_laws.declared.question_types.verdict.Verdict.{Verdict}

@@ -4,7 +4,7 @@ use Rattle.judge.specs.call_table.Table.{Table}
 use Rattle.judge.specs.dropin_merge.declared.resolved.Resolved.{Resolved}
 use Rattle.judge.specs.site_table.Table.{Site}
 use Rattle.plan_command.specs.unit_inputs.Inputs.{Inputs}
-use Rattle.asked_service.specs.started_units.Starting.{given}
+use Rattle.asked_service.specs.launching.Starting.{given}
 
 pub same_inputs : (inputs : Inputs) (unit : Resolved) (calls : Table) (site : Site) → unit ≡ inputs.unit → calls ≡ inputs.calls
     → site ≡ inputs.site → given unit calls site ≡ inputs

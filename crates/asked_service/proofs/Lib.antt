@@ -3,7 +3,7 @@ pub mod Exact
 pub mod Counted
 pub mod OtherPrograms
 pub mod Served
-pub mod LaunchedWhole
+pub mod LaunchedUnits
 pub mod Started
 pub mod Given
 pub mod OneLaunch

@@ -32,11 +32,12 @@ use Rattle.judge.specs.launcher.Launch.{Launched as Ended}
 use Rattle.judge.specs.launcher.Launches.{AreRead}
 use Rattle.judge.specs.launcher.LaunchesAlike.{EndAlike}
 use Rattle.judge.specs.launcher.Matching.{AreMatching}
+use Rattle.judge.specs.launcher.declared.error.LaunchError.{LaunchError}
+use Rattle.judge.specs.launcher.declared.error.LaunchError.TheVariants as error
 use Rattle.judge.specs.launcher.declared.launched.Launched.{Launched as Service}
 use Rattle.judge.proofs.OfLauncher.Conditions.{settings_can_be_launched}
 use Rattle.judge.proofs.OfLauncher.LaunchesAlike.{launches_alike}
 use Rattle.judge.proofs.OfLauncher.Programs.{they_are_read, they_match}
-use Rattle.judge.specs.mount_plan.Answers.{Plans}
 use Rattle.judge.specs.mount_plan.Host.{host_of}
 use Rattle.judge.specs.mount_plan.Planned.{planned}
 use Rattle.judge.specs.mount_plan.declared.error.PlanError.{PlanError}
@@ -45,15 +46,11 @@ use Rattle.judge.specs.path_settings.declared.mentioned.Mentioned.{Mentioned}
 use Rattle.judge.specs.path_settings.view_map.Kept.{Host, Refusal, missing, wrong_kind}
 use Rattle.judge.specs.site_table.Table.{Site}
 use Rattle.asked_service.proofs.OtherPrograms.{installed}
-use Rattle.asked_service.specs.OneLaunch.{AreOneAnswer, AreOneLaunch, AreOneService, AreTables, LaunchesOnce, StartsOnce}
-use Rattle.asked_service.specs.declared.launched_units.refusal.UnitRefusal.{UnitRefusal}
-use Rattle.asked_service.specs.declared.launched_units.refusal.UnitRefusal.TheVariants.{Settings as InSettings, Plan, Launch, Memory}
-use Rattle.asked_service.specs.declared.unit_launch.launching.UnitLaunch.{UnitLaunch}
-use Rattle.asked_service.specs.declared.unit_launch.launching.UnitLaunch.TheVariants.{Launched, Refused}
-use Rattle.asked_service.specs.declared.unit_launch.refusal.LaunchRefusal.{LaunchRefusal}
-use Rattle.asked_service.specs.declared.unit_launch.refusal.LaunchRefusal.TheVariants as refusal
-use Rattle.asked_service.specs.launched_units.Launching.{IsLaunchedUnit, IsNotLaunched, Launches, RefusesPath}
-use Rattle.asked_service.specs.unit_launch.Launching.{ComesTo, IsLaunched, IsRefused}
+use Rattle.asked_service.specs.OneLaunch.{AreOneAnswer, AreOneService, AreTables, LaunchesOnce}
+use Rattle.asked_service.specs.declared.launching.refusal.Refusal.{Refusal as Why}
+use Rattle.asked_service.specs.declared.launching.refusal.Refusal.TheVariants.{Settings as InSettings, Plan, Launch, Memory}
+use Rattle.asked_service.specs.launching.Launched.{IsLaunched, IsLaunchedUnit, IsNotLaunched, IsRefused, IsRefusedUnit, Launches, RefusesPath}
+use Rattle.plan_command.specs.Planned.{IsPlan}
 
 -- ---- what is the same under a constructor
 heads : (a b : Place) (xs ys : List Place) → a ∷ xs ≡ b ∷ ys → a ≡ b
@@ -247,84 +244,59 @@ module _ (unit : Resolved) (table : calls.Table) (site : Site) where
               some.matching some'.matching;
         }
 
-    not_both : (service : Service) (why : LaunchRefusal) → IsLaunched table site settings plan service
+    not_both : (service : Service) (why : LaunchError) → IsLaunched table site settings plan service
         → IsRefused table site settings' plan why → ⊥
-    not_both service (refusal.Privileged path) is each =
+    not_both service (error.PrivilegedProgram path) is each =
         let e = privileged_alone _ _ plan path _ are' are each (by_service settings plan service is) in
         cc
-    not_both service (refusal.Refused step errno) is all =
+    not_both service (error.Refused step errno) is all =
         ends_alike tables settings settings' are are' plan can (Ended service.world service.steps) (StepRefused step errno)
         (by_service settings plan service is) (by_all settings' plan (StepRefused step errno) all)
-    not_both service (refusal.Killed step) is all =
+    not_both service (error.Killed step) is all =
         ends_alike tables settings settings' are are' plan can (Ended service.world service.steps) (StepKilled step)
         (by_service settings plan service is) (by_all settings' plan (StepKilled step) all)
+    not_both service error.Memory is none = none
 
-    one_refusal : (one other : LaunchRefusal) → IsRefused table site settings plan one → IsRefused table site settings' plan other
+    one_refusal : (one other : LaunchError) → IsRefused table site settings plan one → IsRefused table site settings' plan other
         → one ≡ other
-    one_refusal (refusal.Privileged path) (refusal.Privileged path') each each' =
-        ap refusal.Privileged (same_program path path' (sym (each []) ∙ same_launch settings settings' plan are are' [] ∙ each' []))
-    one_refusal (refusal.Privileged path) (refusal.Refused step errno) each all =
+    one_refusal error.Memory other none all = absurd none
+    one_refusal (error.PrivilegedProgram path) error.Memory each none = absurd none
+    one_refusal (error.Refused step errno) error.Memory all none = absurd none
+    one_refusal (error.Killed step) error.Memory all none = absurd none
+    one_refusal (error.PrivilegedProgram path) (error.PrivilegedProgram path') each each' =
+        ap error.PrivilegedProgram (same_program path path' (sym (each []) ∙ same_launch settings settings' plan are are' [] ∙ each' []))
+    one_refusal (error.PrivilegedProgram path) (error.Refused step errno) each all =
         let e = privileged_alone _ _ plan path _ are are' each (by_all settings' plan (StepRefused step errno) all) in
         cc
-    one_refusal (refusal.Privileged path) (refusal.Killed step) each all =
+    one_refusal (error.PrivilegedProgram path) (error.Killed step) each all =
         let e = privileged_alone _ _ plan path _ are are' each (by_all settings' plan (StepKilled step) all) in
         cc
-    one_refusal (refusal.Refused step errno) (refusal.Privileged path) all each =
+    one_refusal (error.Refused step errno) (error.PrivilegedProgram path) all each =
         let e = privileged_alone _ _ plan path _ are' are each (by_all settings plan (StepRefused step errno) all) in
         cc
-    one_refusal (refusal.Refused step errno) (refusal.Refused step' errno') all all' =
+    one_refusal (error.Refused step errno) (error.Refused step' errno') all all' =
         let same : EndAlike all.codes all'.codes (StepRefused step errno) (StepRefused step' errno') =
         ends_alike tables settings settings' are are' plan can (StepRefused step errno) (StepRefused step' errno')
         (by_all settings plan (StepRefused step errno) all) (by_all settings' plan (StepRefused step' errno') all') in
-        ap (λ n. refusal.Refused n errno) same.0 ∙ ap (refusal.Refused step') same.1
-    one_refusal (refusal.Refused step errno) (refusal.Killed step') all all' =
+        ap (λ n. error.Refused n errno) same.0 ∙ ap (error.Refused step') same.1
+    one_refusal (error.Refused step errno) (error.Killed step') all all' =
         absurd (ends_alike tables settings settings' are are' plan can (StepRefused step errno) (StepKilled step')
         (by_all settings plan (StepRefused step errno) all) (by_all settings' plan (StepKilled step') all'))
-    one_refusal (refusal.Killed step) (refusal.Privileged path) all each =
+    one_refusal (error.Killed step) (error.PrivilegedProgram path) all each =
         let e = privileged_alone _ _ plan path _ are' are each (by_all settings plan (StepKilled step) all) in
         cc
-    one_refusal (refusal.Killed step) (refusal.Refused step' errno) all all' =
+    one_refusal (error.Killed step) (error.Refused step' errno) all all' =
         absurd (ends_alike tables settings settings' are are' plan can (StepKilled step) (StepRefused step' errno)
         (by_all settings plan (StepKilled step) all) (by_all settings' plan (StepRefused step' errno) all'))
-    one_refusal (refusal.Killed step) (refusal.Killed step') all all' =
-        ap refusal.Killed
+    one_refusal (error.Killed step) (error.Killed step') all all' =
+        ap error.Killed
         (ends_alike tables settings settings' are are' plan can (StepKilled step) (StepKilled step')
         (by_all settings plan (StepKilled step) all) (by_all settings' plan (StepKilled step') all'))
-
-  -- on two plans of the same mentions
-  module _ (tables : AreTables table site) (settings settings' : Settings) (are : AreSettings unit table site settings)
-      (are' : AreSettings unit table site settings') (plan plan' : Table) (can : CanBeMounted (host_of site) plan)
-      (same : plan ≡ plan') where
-    comes_once : (one other : UnitLaunch) → ComesTo table site settings plan one → ComesTo table site settings' plan' other
-        → AreOneLaunch one other
-    comes_once (Launched one) (Launched other) is is' =
-        one_service tables settings settings' are are' plan can one other is
-        (subst (λ (own : Table). IsLaunched table site settings' own other) (sym same) is')
-    comes_once (Launched service) (Refused why) is barred =
-        not_both tables settings settings' are are' plan can service why is
-        (subst (λ (own : Table). IsRefused table site settings' own why) (sym same) barred)
-    comes_once (Refused why) (Launched service) barred is =
-        not_both tables settings' settings are' are plan can service why
-        (subst (λ (own : Table). IsLaunched table site settings' own service) (sym same) is) barred
-    comes_once (Refused one) (Refused other) barred barred' =
-        one_refusal tables settings settings' are are' plan can one other barred
-        (subst (λ (own : Table). IsRefused table site settings' own other) (sym same) barred')
 
 -- ---- a unit has one plan
 one_table : (row_at : Host) (mentions : Mentioned) (plan plan' : Table) → planned row_at mentions ≡ Ok plan
     → planned row_at mentions ≡ Ok plan' → plan ≡ plan'
 one_table row_at mentions plan plan' is is' = ok_table plan plan' (sym is ∙ is')
-
-pub starts_once : StartsOnce
-starts_once inputs one other tables is is' =
-    let host = host_of inputs.site in
-    let mentions = unit_mentions inputs.unit inputs.site in
-    let own = is.is_plan in
-    let their = is'.is_plan in
-    comes_once inputs.unit inputs.calls inputs.site tables is.settings is'.settings is.are_settings is'.are_settings is.plan is'.plan
-    own.can_be_mounted
-    (one_table host mentions is.plan is'.plan own.is_planned their.is_planned)
-    one other is.comes_to is'.comes_to
 
 -- ---- a unit has one answer
 module _ (unit : Resolved) (table : calls.Table) (site : Site) (tables : AreTables table site) where
@@ -339,26 +311,44 @@ module _ (unit : Resolved) (table : calls.Table) (site : Site) (tables : AreTabl
   paths_once plan.Memory other is is' = absurd is
 
   not_planned : (error : PlanError) (steps : Table) → RefusesPath (host_of site) (unit_mentions unit site) error
-      → Plans (host_of site) (unit_mentions unit site) (Ok steps) → ⊥
-  not_planned (plan.Missing path) steps is has = let clash = sym is ∙ has in cc
-  not_planned (plan.Kind path) steps is has = let clash = sym is ∙ has in cc
+      → IsPlan (host_of site) (unit_mentions unit site) steps → ⊥
+  not_planned (plan.Missing path) steps is has = let clash = sym is ∙ has.is_planned in cc
+  not_planned (plan.Kind path) steps is has = let clash = sym is ∙ has.is_planned in cc
   not_planned plan.Memory steps is has = is
 
-  one_plan : (steps steps' : Table) → Plans (host_of site) (unit_mentions unit site) (Ok steps)
-      → Plans (host_of site) (unit_mentions unit site) (Ok steps') → steps ≡ steps'
-  one_plan steps steps' has has' = one_table (host_of site) (unit_mentions unit site) steps steps' has has'
+  one_plan : (steps steps' : Table) → IsPlan (host_of site) (unit_mentions unit site) steps
+      → IsPlan (host_of site) (unit_mentions unit site) steps' → steps ≡ steps'
+  one_plan steps steps' has has' = one_table (host_of site) (unit_mentions unit site) steps steps' has.is_planned has'.is_planned
 
-  launched_or_refused : (service : Service) (why : UnitRefusal) → IsLaunchedUnit unit table site service
+  services_once : (one other : Service) → IsLaunchedUnit unit table site one → IsLaunchedUnit unit table site other
+      → AreOneService one other
+  services_once one other is is' =
+      let same = one_plan is.plan is'.plan is.is_plan is'.is_plan in
+      one_service unit table site tables is.settings is'.settings is.are_settings is'.are_settings is.plan is.is_plan.can_be_mounted one other
+      is.launched (subst (λ (own : Table). IsLaunched table site is'.settings own other) (sym same) is'.launched)
+
+  launched_or_barred : (service : Service) (why : LaunchError) → IsLaunchedUnit unit table site service
+      → IsRefusedUnit unit table site why → ⊥
+  launched_or_barred service why is barred =
+      let same = one_plan is.plan barred.plan is.is_plan barred.is_plan in
+      not_both unit table site tables is.settings barred.settings is.are_settings barred.are_settings is.plan is.is_plan.can_be_mounted
+      service why is.launched (subst (λ (own : Table). IsRefused table site barred.settings own why) (sym same) barred.refused)
+
+  barred_once : (one other : LaunchError) → IsRefusedUnit unit table site one → IsRefusedUnit unit table site other → one ≡ other
+  barred_once one other barred barred' =
+      let same = one_plan barred.plan barred'.plan barred.is_plan barred'.is_plan in
+      one_refusal unit table site tables barred.settings barred'.settings barred.are_settings barred'.are_settings barred.plan
+      barred.is_plan.can_be_mounted one other barred.refused
+      (subst (λ (own : Table). IsRefused table site barred'.settings own other) (sym same) barred'.refused)
+
+  launched_or_refused : (service : Service) (why : Why) → IsLaunchedUnit unit table site service
       → IsNotLaunched unit table site why → why ≡ Memory
   launched_or_refused service (InSettings error) is barred = let clash = sym is.accepted ∙ barred in cc
   launched_or_refused service (Plan error) is barred = absurd (not_planned error is.plan barred.1 is.is_plan)
-  launched_or_refused service (Launch why) is barred =
-      let same = one_plan is.plan barred.plan is.is_plan barred.is_plan in
-      absurd (comes_once unit table site tables is.settings barred.settings is.are_settings barred.are_settings is.plan barred.plan
-      is.fits.can_be_mounted same (Launched service) (Refused why) is.launched barred.refused)
+  launched_or_refused service (Launch why) is barred = absurd (launched_or_barred service why is barred)
   launched_or_refused service Memory is barred = refl
 
-  refused_once : (one other : UnitRefusal) → IsNotLaunched unit table site one → IsNotLaunched unit table site other → one ≢ Memory
+  refused_once : (one other : Why) → IsNotLaunched unit table site one → IsNotLaunched unit table site other → one ≢ Memory
       → other ≢ Memory → one ≡ other
   refused_once Memory other barred barred' told told' = absurd (told refl)
   refused_once (InSettings error) (InSettings error') barred barred' told told' =
@@ -372,18 +362,12 @@ module _ (unit : Resolved) (table : calls.Table) (site : Site) (tables : AreTabl
   refused_once (Plan error) Memory barred barred' told told' = absurd (told' refl)
   refused_once (Launch why) (InSettings error) barred barred' told told' = let clash = sym barred.accepted ∙ barred' in cc
   refused_once (Launch why) (Plan error) barred barred' told told' = absurd (not_planned error barred.plan barred'.1 barred.is_plan)
-  refused_once (Launch why) (Launch why') barred barred' told told' =
-      let same = one_plan barred.plan barred'.plan barred.is_plan barred'.is_plan in
-      ap Launch
-      (comes_once unit table site tables barred.settings barred'.settings barred.are_settings barred'.are_settings barred.plan
-      barred'.plan barred.fits.can_be_mounted same (Refused why) (Refused why') barred.refused barred'.refused)
+  refused_once (Launch why) (Launch why') barred barred' told told' = ap Launch (barred_once why why' barred barred')
   refused_once (Launch why) Memory barred barred' told told' = absurd (told' refl)
 
-  answers_once : (one other : Result Service UnitRefusal) → Launches unit table site one → Launches unit table site other
+  answers_once : (one other : Result Service Why) → Launches unit table site one → Launches unit table site other
       → AreOneAnswer one other
-  answers_once (Ok one) (Ok other) is is' =
-      comes_once unit table site tables is.settings is'.settings is.are_settings is'.are_settings is.plan is'.plan is.fits.can_be_mounted
-      (one_plan is.plan is'.plan is.is_plan is'.is_plan) (Launched one) (Launched other) is.launched is'.launched
+  answers_once (Ok one) (Ok other) is is' = services_once one other is is'
   answers_once (Ok service) (Err why) is barred = launched_or_refused service why is barred
   answers_once (Err why) (Ok service) barred is = launched_or_refused service why is barred
   answers_once (Err one) (Err other) barred barred' = refused_once one other barred barred'

@@ -1,5 +1,5 @@
 -- Launches by other programs that match go on alike.
-use Rattle.std.proofs.Common.{◌≡◌, ℕ, ◌<◌, ◌≤◌, ◌^◌, List, refl, sym, ap, ◌∙◌, subst, arith}
+use Rattle.std.proofs.Common.{◌≡◌, ℕ, ◌≤◌, List, refl, sym, ap, ◌∙◌, subst, arith}
 use Rattle.judge.specs.bpf_code.declared.machine.Insn.{Insn}
 use Rattle.judge.specs.bpf_code.Stack.{room_of}
 use Rattle.judge.specs.call_table.Facts.{IsWhole}
@@ -28,7 +28,7 @@ use Rattle.judge.proofs.OfLauncher.Conditions.{settings_can_be_launched}
 use Rattle.judge.proofs.OfLauncher.LaunchesAlike.{launches_alike}
 use Rattle.judge.proofs.OfLauncher.Matching.{alike, room}
 use Rattle.judge.proofs.OfLauncher.Programs.{they_are_read, they_match}
-use Rattle.asked_service.specs.unit_launch.OtherPrograms.{AreOthers, GoesOnAlike, HasRoomByBounds, WhicheverPrograms}
+use Rattle.asked_service.specs.launching.OtherPrograms.{AreOthers, GoesOnAlike, HasRoomByBounds, WhicheverPrograms}
 
 -- programs that match have room in one stack
 module _ (filters : List Filter) (fit : most_room filters ≤ max_insns_per_path) where

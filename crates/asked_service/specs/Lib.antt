@@ -1,8 +1,6 @@
 pub mod Asked
 pub mod Rows
-pub mod unit_launch
-pub mod launched_units
-pub mod started_units
+pub mod launching
 pub mod OneLaunch
 pub mod Answers
 pub mod AnswerLines

@@ -8,13 +8,9 @@ use Rattle.judge.specs.launcher.Alike.{AnswerAlike, HasWordArchs, above}
 use Rattle.judge.specs.launcher.Answers.{codes_of}
 use Rattle.judge.specs.launcher.declared.launched.Launched.{Launched as Service}
 use Rattle.judge.specs.site_table.Table.{IsSite, Site}
-use Rattle.plan_command.specs.unit_inputs.Inputs.{Inputs}
-use Rattle.asked_service.specs.declared.launched_units.refusal.UnitRefusal.{UnitRefusal}
-use Rattle.asked_service.specs.declared.launched_units.refusal.UnitRefusal.TheVariants.{Memory}
-use Rattle.asked_service.specs.declared.unit_launch.launching.UnitLaunch.{UnitLaunch}
-use Rattle.asked_service.specs.declared.unit_launch.launching.UnitLaunch.TheVariants.{Launched, Refused}
-use Rattle.asked_service.specs.launched_units.Launching.{Launches}
-use Rattle.asked_service.specs.started_units.Starting.{StartsAs}
+use Rattle.asked_service.specs.launching.Launched.{Launches}
+use Rattle.asked_service.specs.declared.launching.refusal.Refusal.{Refusal}
+use Rattle.asked_service.specs.declared.launching.refusal.Refusal.TheVariants.{Memory}
 
 -- a table of calls and a site as they are read: the table has the calls of every launch, the architecture of each ABI is a word of
 -- 32 bits, and the site is sound
@@ -31,21 +27,9 @@ pub record AreOneService (one other : Service) : Type 0 where
   pub second : other.world ≡ above (codes_of other.filters) base
   pub answer_alike : AnswerAlike (codes_of one.filters) (codes_of other.filters)
 
--- a launch and a refusal exclude each other; two launches are one, and two refusals are the same
-abbrev pub AreOneLaunch : UnitLaunch → UnitLaunch → Type 0
-AreOneLaunch (Launched one) (Launched other) = AreOneService one other
-AreOneLaunch (Launched one) (Refused refusal) = ⊥
-AreOneLaunch (Refused refusal) (Launched other) = ⊥
-AreOneLaunch (Refused one) (Refused other) = one ≡ other
-
--- a unit that starts over the same tables twice starts as one thing
-abbrev pub StartsOnce : Type 0
-StartsOnce = (inputs : Inputs) (one other : UnitLaunch) → AreTables inputs.calls inputs.site → StartsAs inputs one → StartsAs inputs other
-    → AreOneLaunch one other
-
 -- a unit that is launched is not refused, by no setting, no path and no step; and one that is refused is refused for one cause. An answer
 -- that memory ran out says nothing
-abbrev pub AreOneAnswer : Result Service UnitRefusal → Result Service UnitRefusal → Type 0
+abbrev pub AreOneAnswer : Result Service Refusal → Result Service Refusal → Type 0
 AreOneAnswer (Ok one) (Ok other) = AreOneService one other
 AreOneAnswer (Ok service) (Err refusal) = refusal ≡ Memory
 AreOneAnswer (Err refusal) (Ok service) = refusal ≡ Memory
@@ -53,5 +37,5 @@ AreOneAnswer (Err one) (Err other) = one ≢ Memory → other ≢ Memory → one
 
 -- of a unit over one table and one site there is one answer
 abbrev pub LaunchesOnce : Type 0
-LaunchesOnce = (unit : Resolved) (table : calls.Table) (site : Site) (one other : Result Service UnitRefusal) → AreTables table site
+LaunchesOnce = (unit : Resolved) (table : calls.Table) (site : Site) (one other : Result Service Refusal) → AreTables table site
     → Launches unit table site one → Launches unit table site other → AreOneAnswer one other

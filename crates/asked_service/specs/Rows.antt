@@ -6,7 +6,7 @@ use Rattle.judge.specs.dropin_merge.declared.resolved.Resolved.{Resolved}
 use Rattle.judge.specs.kernel_laws.Denied.{IsDenied}
 use Rattle.judge.specs.kernel_laws.Questions as asked
 use Rattle.judge.specs.kernel_model.World.{World}
-use Rattle.asked_service.specs.launched_units.Launching.{IsLaunchedUnit}
+use Rattle.asked_service.specs.launching.Launched.{IsLaunchedUnit}
 use Rattle.judge.specs.launcher.declared.launched.Launched.{Launched as Service}
 use Rattle.judge.specs.kernel_laws.declared.question_types.question.Question.{Question}
 use Rattle.judge.specs.site_table.Table.{Site}

@@ -1,12 +1,7 @@
 //! Launches a unit's service, asks it questions, and gives the verdicts.
 //!
-//! A unit becomes a launched service in three steps, each a module:
-//!
-//! - [`unit_launch`] launches settings with their plan of mounts, and has the line of a launch that is refused.
-//! - [`launched_units`] takes a unit through its settings, its plan and its launch.
-//! - [`started_units`] does so for a named unit, and has the line of the first refusal.
-//!
-//! A unit has one answer: a launched service or one refusal. That is a law, in [`laws`].
+//! [`launching`] takes a unit through its settings, its plan and its launch: `launch_unit` returns the service or one
+//! [`Refusal`], and `tell_refusal` has the line of a refusal. A unit has one answer; that is a law, in [`laws`].
 //!
 //! `ask(alloc, service)?` is a service with all questions about it. [`verdict_changes`] compares two of them. `truths` is the
 //! law that the answers are true, and `read_script` has the calls of a script.
@@ -19,24 +14,24 @@
 mod asking;
 mod bounding;
 mod folders;
-pub mod launched_units;
+pub mod launching;
 pub mod laws;
 mod reasons;
 mod rows;
 mod script;
-pub mod started_units;
-pub mod unit_launch;
 pub mod verdict_changes;
 
 pub use asking::{Asked, ask};
 pub use bounding::{Bounded, bound};
 pub use folders::is_named;
 pub use judge::{
-    Call, Ceiling, FilterProgram, Flags, Launched, MountStep, MountSteps, MountTable, PlanError,
-    Reply, Settings, SettingsError, Version, What, World, alike, blind, ceiling, fits, is_read,
-    openness, plan, settings, verdict,
+    Call, Ceiling, FilterProgram, Flags, LaunchError, Launched, MountStep, MountSteps, MountTable,
+    PlanError, Reply, Settings, SettingsError, Version, What, World, alike, blind, ceiling, fits,
+    is_read, openness, plan, settings, verdict,
 };
-pub use launched_units::{UnitRefusal, launch_whole};
+pub use launching::{
+    Refusal, launch_line, launch_settled, launch_unit, refused_launch, tell_refusal,
+};
 pub use open_calls::{Service, calls};
 pub use plan_command::{
     CommandError, ExitStatus, ItemList, Line, Ready, ReadyText, SettledUnit, finish, finish_error,
@@ -54,5 +49,3 @@ pub use report_text::{
 };
 pub use rows::{VerdictRow, count_open, verdict_rows};
 pub use script::read_script;
-pub use started_units::start;
-pub use unit_launch::{LaunchRefusal, UnitLaunch, refusal_line};

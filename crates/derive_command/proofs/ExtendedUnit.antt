@@ -35,7 +35,7 @@ use Rattle.asked_service.specs.dropin_merge.unit_values.Values.{expanded_at, giv
 use Rattle.asked_service.specs.dropin_merge.declared.unit_values.lines.Line.{Line}
 use Rattle.asked_service.specs.dropin_merge.declared.unit_values.listed.Listed.{Listed}
 use Rattle.asked_service.specs.dropin_merge.declared.unit_values.value.Place.{Place}
-use Rattle.asked_service.specs.launched_units.Longer.{says, unless_refused}
+use Rattle.asked_service.specs.launching.Longer.{says, unless_refused}
 use Rattle.derive_command.specs.trace_profile.Extended.{drop_in_text, extended, is_first_line, name_at}
 use Rattle.derive_command.proofs.AllowedNames.{names_are, said_list, said_words}
 use Rattle.derive_command.proofs.DropInText.{allows, reset, unit_is, value}

@@ -1,6 +1,5 @@
 pub mod PlainInputs
 pub mod Prepared
-pub mod Stopped
 pub mod Told
 pub use Rattle.asked_service.proofs.OfPlanCommand as OfPlanCommand
 pub use Rattle.asked_service.proofs.OfUnitInputs as OfUnitInputs

@@ -41,9 +41,9 @@ use Rattle.asked_service.specs.kernel_model.declared.kernel_calls.call.Call.{Cal
 use Rattle.asked_service.specs.kernel_model.Runs.{replies}
 use Rattle.asked_service.specs.kernel_model.World.{World}
 use Rattle.asked_service.specs.kernel_model.declared.reply.Reply.{Reply}
-use Rattle.asked_service.specs.launched_units.Launching.{IsLaunchedUnit, IsNotLaunched, RefusesPath}
-use Rattle.asked_service.specs.declared.launched_units.refusal.UnitRefusal.{UnitRefusal}
-use Rattle.asked_service.specs.declared.launched_units.refusal.UnitRefusal.TheVariants.{Memory, Settings as InSettings, Plan, Launch}
+use Rattle.asked_service.specs.launching.Launched.{IsLaunchedUnit, IsNotLaunched, IsRefused, RefusesPath}
+use Rattle.asked_service.specs.declared.launching.refusal.Refusal.{Refusal as Why}
+use Rattle.asked_service.specs.declared.launching.refusal.Refusal.TheVariants.{Memory, Settings as InSettings, Plan, Launch}
 use Rattle.asked_service.specs.launcher.Alike.{HasWordArchs, above}
 use Rattle.asked_service.specs.launcher.Answers.{codes_of, given_bytes, launch_with, wanted_of}
 use Rattle.asked_service.specs.launcher.Launch.{LaunchOutcome, Launched, Wanted, launch}
@@ -60,9 +60,8 @@ use Rattle.asked_service.specs.mount_plan.Planned.{planned}
 use Rattle.asked_service.specs.mount_plan.declared.error.PlanError.{PlanError}
 use Rattle.asked_service.specs.mount_plan.declared.error.PlanError.TheVariants as plan
 use Rattle.asked_service.specs.site_table.Table.{IsSite, Site}
-use Rattle.asked_service.specs.declared.unit_launch.refusal.LaunchRefusal.{LaunchRefusal}
-use Rattle.asked_service.specs.declared.unit_launch.refusal.LaunchRefusal.TheVariants as refusal
-use Rattle.asked_service.specs.unit_launch.Launching.{IsRefused}
+use Rattle.asked_service.specs.launcher.declared.error.LaunchError.{LaunchError}
+use Rattle.asked_service.specs.launcher.declared.error.LaunchError.TheVariants as failed
 use Rattle.asked_service.specs.path_settings.view_map.Kept.{Refusal}
 use Rattle.derive_command.specs.trace_profile.allow_laws.Either.{PushNone}
 use Rattle.derive_command.specs.trace_profile.allow_laws.Launches.{LaunchesBy}
@@ -446,11 +445,12 @@ module _ (unit : Resolved) (table : calls.Table) (site : Site) (sound : IsSite s
               (given_bytes other.filters) other_codes other_read other_match;
           steps = other.steps;
           launched = same_launch names others are are_too alike own_settings other_settings launched.plan launched_too.plan
-              launched.are_settings launched_too.are_settings launched.is_plan launched_too.is_plan (given_bytes other.filters)
+              launched.are_settings launched_too.are_settings launched.is_plan.is_planned launched_too.is_plan.is_planned
+              (given_bytes other.filters)
               ∙ m.launches.ends;
         } in
         let together = either_launches table site (wanted_of own_settings []) launched.plan programs (given_bytes service.filters) (given_bytes other.filters) codes own_codes other_codes service.world other.world
-        whole arch launched.fits.can_be_mounted can.uid (installed_by third are_third settings fit programs codes read matching)
+        whole arch launched.is_plan.can_be_mounted can.uid (installed_by third are_third settings fit programs codes read matching)
         (same_long table base (mentions third are_third) (mentions names are) codes own_codes third_has own_has)
         (same_long table base (mentions third are_third) (mentions others are_too) codes other_codes third_has other_has)
         like own_launch other_launch in
@@ -459,7 +459,7 @@ module _ (unit : Resolved) (table : calls.Table) (site : Site) (sound : IsSite s
           last = above codes together.base;
           steps = together.steps;
           ends = sym (same_launch names third are are_third alike_third own_settings settings launched.plan mounts launched.are_settings fit
-              launched.is_plan has programs) ∙ together.launched;
+              launched.is_plan.is_planned has programs) ∙ together.launched;
           replies_so = λ e.
               either_replies codes own_codes other_codes together.base script like (subst HasWordArchs (sym told) arch) fits
               (subst (λ (own : calls.Table). PushNone own script) (sym told) (pushes_none table script none))
@@ -477,7 +477,7 @@ module _ (unit : Resolved) (table : calls.Table) (site : Site) (sound : IsSite s
     replies_as own run same =
         let l = run.launched in
         let settings = run.settings in
-        let goes = goes_along settings run.plan (given_bytes own.filters) (codes_of own.filters) run.are_settings run.is_plan (they_match settings.filters.items own.filters l.launches.filters) (they_are_read settings.filters.items own.filters l.launches.filters) in
+        let goes = goes_along settings run.plan (given_bytes own.filters) (codes_of own.filters) run.are_settings run.is_plan.is_planned (they_match settings.filters.items own.filters l.launches.filters) (they_are_read settings.filters.items own.filters l.launches.filters) in
         ap (λ (world : World). replies world script) (ended own.world goes.last own.steps goes.steps (sym l.launches.ends ∙ goes.ends))
         ∙ goes.replies_so same
 
@@ -486,37 +486,38 @@ module _ (unit : Resolved) (table : calls.Table) (site : Site) (sound : IsSite s
     launched_only last steps outcome x e d = sym e ∙ d
 
     refused_launch : (settings : Settings) (mounts : Table) → AreSettings (extended unit table third) table site settings
-        → Plans (host_of site) (unit_mentions (extended unit table third) site) (Ok mounts) → (why : LaunchRefusal)
+        → Plans (host_of site) (unit_mentions (extended unit table third) site) (Ok mounts) → (why : LaunchError)
         → IsRefused table site settings mounts why → ⊥
-    refused_launch settings mounts fit has (refusal.Privileged program) ends =
-        let here = same_launch third names are_third are (λ uid. sym (alike_third uid)) settings launched.settings mounts launched.plan fit launched.are_settings has launched.is_plan (given_bytes service.filters) in
+    refused_launch settings mounts fit has (failed.PrivilegedProgram program) ends =
+        let here = same_launch third names are_third are (λ uid. sym (alike_third uid)) settings launched.settings mounts launched.plan fit launched.are_settings has launched.is_plan.is_planned (given_bytes service.filters) in
         let e = sym (ends (given_bytes service.filters)) ∙ here ∙ launched.launched.launches.ends in
         cc
-    refused_launch settings mounts fit has (refusal.Refused step errno) ends =
+    refused_launch settings mounts fit has (failed.Refused step errno) ends =
         let goes = goes_along settings mounts (map bytes_of ends.codes) ends.codes fit has ends.matching ends.read in
         let e = sym goes.ends ∙ ends.each (map bytes_of ends.codes) ends.codes ends.read ends.matching in
         cc
-    refused_launch settings mounts fit has (refusal.Killed step) ends =
+    refused_launch settings mounts fit has (failed.Killed step) ends =
         let goes = goes_along settings mounts (map bytes_of ends.codes) ends.codes fit has ends.matching ends.read in
         let e = sym goes.ends ∙ ends.each (map bytes_of ends.codes) ends.codes ends.read ends.matching in
         cc
+    refused_launch settings mounts fit has failed.Memory none = none
 
     refused_path : (error : PlanError) → RefusesPath (host_of site) (unit_mentions (extended unit table third) site) error → ⊥
     refused_path (plan.Missing path) e =
         let same = ap (planned (host_of site)) (same_paths third names are_third are) in
-        let clash = sym e ∙ same ∙ launched.is_plan in
+        let clash = sym e ∙ same ∙ launched.is_plan.is_planned in
         cc
     refused_path (plan.Kind path) e =
         let same = ap (planned (host_of site)) (same_paths third names are_third are) in
-        let clash = sym e ∙ same ∙ launched.is_plan in
+        let clash = sym e ∙ same ∙ launched.is_plan.is_planned in
         cc
     refused_path plan.Memory e = e
 
     -- so the third does not fail
-    not_refused : (error : UnitRefusal) → error ≢ Memory → IsNotLaunched (extended unit table third) table site error → ⊥
+    not_refused : (error : Why) → error ≢ Memory → IsNotLaunched (extended unit table third) table site error → ⊥
     not_refused (InSettings error) ne refused = let clash = sym refused ∙ same_refusal third names are_third are ∙ launched.accepted in cc
     not_refused (Plan error) ne refused = refused_path error refused.1
-    not_refused (Launch why) ne refused = refused_launch refused.settings refused.plan refused.are_settings refused.is_plan why
+    not_refused (Launch why) ne refused = refused_launch refused.settings refused.plan refused.are_settings refused.is_plan.is_planned why
         refused.refused
     not_refused Memory ne refused = ne refl
 

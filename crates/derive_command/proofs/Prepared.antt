@@ -13,27 +13,12 @@ use Rattle.asked_service.specs.unit_inputs.declared.command_answers.error.Comman
 use Rattle.asked_service.specs.unit_inputs.declared.command_answers.error.CommandError.TheVariants as stop
 use Rattle.asked_service.proofs.OfUnitInputs.FileCommands.{go_together, ready_is_admitted, stop_is_admitted}
 use Rattle.asked_service.proofs.OfUnitInputs.Refusing.{stops_as}
-use Rattle.asked_service.specs.exec_settings.Mounts.{unit_mentions}
-use Rattle.asked_service.specs.exec_settings.Refusals.{refusal_of}
-use Rattle.asked_service.specs.exec_settings.declared.errors.SettingsError.{SettingsError}
-use Rattle.asked_service.specs.launched_units.Launching.{FitsMentions, IsRefusedUnit, RefusesPath}
-use Rattle.asked_service.specs.mount_plan.Answers.{Plans}
-use Rattle.asked_service.specs.mount_plan.Host.{host_of}
-use Rattle.asked_service.specs.kern_mounts.declared.step.MountStep.{MountStep}
-use Rattle.asked_service.specs.mount_plan.declared.error.PlanError.{PlanError}
-use Rattle.asked_service.specs.plan_command.Refusals.{error_line}
 use Rattle.asked_service.specs.Scripts.{script_in}
-use Rattle.asked_service.specs.started_units.Starting.{start_refusals}
-use Rattle.asked_service.proofs.Started as started
-use Rattle.derive_command.specs.trace_profile.Derived.{IsDerived, IsOnlyOne}
+use Rattle.asked_service.specs.launching.Starting.{start_refusals}
 use Rattle.derive_command.specs.trace_profile.PlainNames.{HasPlainNames}
-use Rattle.derive_command.specs.trace_profile.Extended.{drop_in_text, open_unit}
 use Rattle.derive_command.specs.trace_profile.Scripts.{first_seccomp}
 use Rattle.asked_service.specs.unit_inputs.Inputs.{Inputs, input_refusals, inputs_of, inputs_view}
 use Rattle.asked_service.specs.unit_inputs.declared.inputs.UnitInputs.{UnitInputs}
-use Rattle.asked_service.specs.unit_launch.Refusals.{refusal_line}
-use Rattle.asked_service.specs.declared.unit_launch.refusal.LaunchRefusal.{LaunchRefusal}
-use Rattle.asked_service.specs.unit_inputs.SettingsRefusals.{settings_line}
 use Rattle.asked_service.specs.unit_inputs.Settled.{refusals_by}
 use Rattle.asked_service.proofs.OfUnitInputs.Steps as steps
 use Rattle.asked_service.proofs.OfUnitInputs.Steps.{AreRead, refusals_with}
@@ -48,9 +33,6 @@ use Rattle.derive_command.proofs.PlainInputs.{inputs_are_plain}
 -- ---- behind the script
 
 module _ (unit path : List ℕ) (inputs : Inputs) (script : List Call) where
-  abbrev pub opened_settings : Option SettingsError
-  opened_settings = refusal_of (open_unit inputs.unit inputs.calls) inputs.calls inputs.site
-
   -- by what is found first
   abbrev refusals_from : Option ℕ → List (Option (List ℕ))
   refusals_from seccomp = option_map (seccomp_line path) seccomp ∷ start_refusals unit (opened inputs)
@@ -60,54 +42,13 @@ module _ (unit path : List ℕ) (inputs : Inputs) (script : List Call) where
       → first_refusal (refusals_behind_script unit path inputs script) ≡ Some (seccomp_line path number)
   at_seccomp number is = ap (λ found. first_refusal (refusals_from found)) is
 
-  -- a setting is refused
-  pub at_settings : (error : SettingsError) → first_seccomp inputs.calls script ≡ None → opened_settings ≡ Some error
-      → first_refusal (refusals_behind_script unit path inputs script) ≡ Some (settings_line unit error)
-  at_settings error none is =
-      ap (λ found. first_refusal (refusals_from found)) none
-      ∙ started.at_settings unit (open_unit inputs.unit inputs.calls) inputs.calls inputs.site error is
-
-  -- a path is refused
-  pub at_paths : (error : PlanError) → first_seccomp inputs.calls script ≡ None → opened_settings ≡ None
-      → RefusesPath (host_of inputs.site) (unit_mentions (open_unit inputs.unit inputs.calls) inputs.site) error
-      → first_refusal (refusals_behind_script unit path inputs script) ≡ Some (error_line unit error)
-  at_paths error none accepted is =
-      ap (λ found. first_refusal (refusals_from found)) none
-      ∙ started.at_paths unit (open_unit inputs.unit inputs.calls) inputs.calls inputs.site error accepted is
-
-  -- nothing is refused
-  none_refused : (table : List MountStep) → first_seccomp inputs.calls script ≡ None → opened_settings ≡ None
-      → Plans (host_of inputs.site) (unit_mentions (open_unit inputs.unit inputs.calls) inputs.site) (Ok table)
-      → FitsMentions (host_of inputs.site) (unit_mentions (open_unit inputs.unit inputs.calls) inputs.site) table
-      → first_refusal (refusals_behind_script unit path inputs script) ≡ None
-  none_refused table none accepted planned fits =
-      ap (λ found. first_refusal (refusals_from found)) none
-      ∙ (started.planned unit (open_unit inputs.unit inputs.calls) inputs.calls inputs.site table accepted planned fits).0
-
-  -- the list is derived
-  pub answers_derived : (names : List ℕ) (allowing : ReadyText) → first_seccomp inputs.calls script ≡ None
-      → IsDerived inputs.unit inputs.calls inputs.site script names
-      → (HasPlainNames inputs.calls → IsOnlyOne inputs.unit inputs.calls inputs.site script names)
-      → allowing.text.items ≡ drop_in_text inputs.calls names → allowing.status ≡ Done
-      → (first_refusal (refusals_behind_script unit path inputs script) ≡ None) × AnswersCalls inputs script (status_of allowing)
-      (text_of allowing)
-  answers_derived names allowing none is only text status = (
-    none_refused is.opened.plan none is.opened.accepted is.opened.is_plan is.opened.fits,
-    subst (λ e. AnswersCalls inputs script e (text_of allowing)) (sym status)
-        (subst (AnswersCalls inputs script Done) (sym text) (allowed names is only)),
-  )
-
-  -- the launch is refused
-  pub answers_refused : (refusal : LaunchRefusal) (allowing : ReadyText) → first_seccomp inputs.calls script ≡ None
-      → IsRefusedUnit (open_unit inputs.unit inputs.calls) inputs.calls inputs.site refusal
-      → allowing.text.items ≡ refusal_line refusal → allowing.status ≡ LaunchRefused
-      → (first_refusal (refusals_behind_script unit path inputs script) ≡ None) × AnswersCalls inputs script (status_of allowing)
-      (text_of allowing)
-  answers_refused refusal allowing none is text status = (
-    none_refused is.plan none is.accepted is.is_plan is.fits,
-    subst (λ e. AnswersCalls inputs script e (text_of allowing)) (sym status)
-        (subst (AnswersCalls inputs script LaunchRefused) (sym text) (not_launched refusal is)),
-  )
+  -- none does, and the unit that allows every call comes next
+  pub behind_seccomp : (P : ReadyText → Type 0) (result : Result ReadyText CommandError) → first_seccomp inputs.calls script ≡ None
+      → Prepares P (start_refusals unit (opened inputs)) result → Prepares P (refusals_behind_script unit path inputs script) result
+  behind_seccomp P (Ok ready) none said = (ap (λ found. first_refusal (refusals_from found)) none ∙ said.0, said.1)
+  behind_seccomp P (Err (stop.Refused line)) none said = ap (λ found. first_refusal (refusals_from found)) none ∙ said
+  behind_seccomp P (Err stop.ReadFault) none said = tt
+  behind_seccomp P (Err stop.Memory) none said = tt
 
 -- what answers over a table with plain names is printed
 printed_answer : (inputs : Inputs) (script : List Call) → HasPlainNames inputs.calls → (status : ExitStatus) (text : List ℕ)

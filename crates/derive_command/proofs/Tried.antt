@@ -8,9 +8,9 @@ use Rattle.asked_service.specs.dropin_merge.declared.resolved.Resolved.{Resolved
 use Rattle.asked_service.specs.kernel_model.declared.kernel_calls.call.Call.{Call}
 use Rattle.asked_service.specs.kernel_model.Runs.{replies}
 use Rattle.asked_service.specs.kernel_model.declared.reply.Reply.{Reply}
-use Rattle.asked_service.specs.launched_units.Launching.{IsLaunchedUnit, IsNotLaunched}
-use Rattle.asked_service.specs.declared.launched_units.refusal.UnitRefusal.{UnitRefusal}
-use Rattle.asked_service.specs.declared.launched_units.refusal.UnitRefusal.TheVariants.{Memory}
+use Rattle.asked_service.specs.launching.Launched.{IsLaunchedUnit, IsNotLaunched}
+use Rattle.asked_service.specs.declared.launching.refusal.Refusal.{Refusal}
+use Rattle.asked_service.specs.declared.launching.refusal.Refusal.TheVariants.{Memory}
 use Rattle.asked_service.specs.launcher.declared.launched.Launched.{Launched as Service}
 use Rattle.asked_service.specs.site_table.Table.{Site}
 use Rattle.derive_command.specs.trace_profile.Derived.{IsDerived, IsLeast, Serves, Tells, Tried, not_launched, other_reply, tried_with}
@@ -21,7 +21,7 @@ use Rattle.derive_command.specs.trace_profile.Searching.{AreServing, LeavesOut}
 use Rattle.derive_command.proofs.Lists.{every_are_names, some_are_names}
 
 -- what holds of an error holds of a result that passes it on
-pub at_error : {R : Type 0} (P : Result R UnitRefusal → Type 0) (result : Result R UnitRefusal) (error : UnitRefusal)
+pub at_error : {R : Type 0} (P : Result R Refusal → Type 0) (result : Result R Refusal) (error : Refusal)
     → IsErrAnd result (λ own. own ≡ error) → P (Err error) → P result
 at_error P (Ok made) error is holds = absurd is
 at_error P (Err own) error is holds = subst (λ one. P (Err one)) (sym is) holds
@@ -37,7 +37,7 @@ module _ (tried : Tried) (names : List ℕ) (unit : Resolved) (is : unit ≡ ext
   tells_replies service (Err error) launched none = tt
 
   -- the unit is not launched
-  pub tells_no_launch : (error : UnitRefusal) (result : Result Bool AllocError) → IsNotLaunched unit tried.table tried.site error
+  pub tells_no_launch : (error : Refusal) (result : Result Bool AllocError) → IsNotLaunched unit tried.table tried.site error
       → IfOk result (λ serves. (serves ≡ false) × (error ≢ Memory)) → IfOk result (Tells tried names)
   tells_no_launch error (Ok serves) refused told =
       subst (Tells tried names) (sym told.0)
@@ -70,7 +70,7 @@ marked_serve tried marks every lent used lent_used told serving lends is lends_u
 
 module _ (unit : Resolved) (table : calls.Table) (site : Site) (script : List Call) (every lent_every : List ℕ) (all : every ≡ every_name table) (lends : lent_every ≡ every) where
   -- the unit that allows every call is not launched
-  pub not_opened : (error : UnitRefusal) → IsNotLaunched (extended unit table lent_every) table site error
+  pub not_opened : (error : Refusal) → IsNotLaunched (extended unit table lent_every) table site error
       → IsNotLaunched (open_unit unit table) table site error
   not_opened error refused = subst (λ these. IsNotLaunched (extended unit table these) table site error) (lends ∙ all) refused
 

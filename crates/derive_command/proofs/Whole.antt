@@ -7,18 +7,17 @@ use Rattle.asked_service.specs.call_table.Table as calls
 use Rattle.asked_service.specs.dropin_merge.declared.resolved.Resolved.{Resolved}
 use Rattle.asked_service.specs.kernel_model.kernel_calls.Calls.{IsCall}
 use Rattle.asked_service.specs.kernel_model.declared.kernel_calls.call.Call.{Call}
-use Rattle.asked_service.specs.launched_units.Launching.{IsNotLaunched}
-use Rattle.asked_service.specs.declared.launched_units.refusal.UnitRefusal.{UnitRefusal}
-use Rattle.asked_service.specs.declared.launched_units.refusal.UnitRefusal.TheVariants as refusal
+use Rattle.asked_service.specs.launching.Launched.{IsNotLaunched}
+use Rattle.asked_service.specs.declared.launching.refusal.Refusal.{Refusal}
 use Rattle.asked_service.proofs.OfLauncher.TwoAbis.{word_archs}
 use Rattle.asked_service.specs.site_table.Table.{IsSite, Site}
 use Rattle.derive_command.specs.trace_profile.Derived.{Derives, IsOnlyOne}
-use Rattle.derive_command.specs.trace_profile.Errors.{error_of}
 use Rattle.derive_command.specs.trace_profile.Extended.{open_unit}
 use Rattle.derive_command.specs.trace_profile.Finding.{DerivesOpen}
 use Rattle.derive_command.specs.trace_profile.PlainNames.{HasPlainNames, IsReadFrom}
 use Rattle.derive_command.specs.trace_profile.Scripts.{first_seccomp}
 use Rattle.derive_command.specs.declared.trace_profile.derived.DeriveError.{DeriveError}
+use Rattle.derive_command.specs.declared.trace_profile.derived.DeriveError.TheVariants.{NotLaunched}
 use Rattle.derive_command.specs.declared.trace_profile.derived.Derived.{Derived}
 use Rattle.derive_command.proofs.OneList.{least_is_only_one}
 use Rattle.derive_command.proofs.PlainTables.{table_is_plain}
@@ -36,15 +35,8 @@ module _ (unit : Resolved) (table : calls.Table) (site : Site) (script : List Ca
 
 -- why there is nothing
 module _ (unit : Resolved) (table : calls.Table) (site : Site) (script : List Call) (none : first_seccomp table script ≡ None) where
-  refuses : (error : UnitRefusal) → IsNotLaunched (open_unit unit table) table site error
-      → Derives unit table site script (Err (error_of error))
-  refuses (refusal.Settings own) is = (none, is)
-  refuses (refusal.Plan own) is = (none, is)
-  refuses (refusal.Launch own) is = (none, is)
-  refuses refusal.Memory is = tt
-
-  pub derives_none : (error : UnitRefusal) (result : Result Derived DeriveError) → IsErrAnd result (λ told. told ≡ error_of error)
+  pub derives_none : (error : Refusal) (result : Result Derived DeriveError) → IsErrAnd result (λ told. told ≡ NotLaunched error)
       → IsNotLaunched (open_unit unit table) table site error
       → Derives unit table site script result
   derives_none error (Ok derived) is not_it = absurd is
-  derives_none error (Err told) is not_it = subst (λ own. Derives unit table site script (Err own)) (sym is) (refuses error not_it)
+  derives_none error (Err told) is not_it = subst (λ own. Derives unit table site script (Err own)) (sym is) (none, not_it)

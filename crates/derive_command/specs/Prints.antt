@@ -5,13 +5,13 @@ use Rattle.asked_service.specs.kernel_model.declared.kernel_calls.call.Call.{Cal
 use Rattle.asked_service.specs.unit_inputs.command_answers.Laws.{FileLaws}
 use Rattle.asked_service.specs.unit_inputs.declared.command_answers.exit_status.ExitStatus.{ExitStatus}
 use Rattle.asked_service.specs.unit_inputs.declared.command_answers.exit_status.ExitStatus.TheVariants.{Done, LaunchRefused}
-use Rattle.asked_service.specs.launched_units.Launching.{IsRefusedUnit}
+use Rattle.asked_service.specs.launching.Launched.{IsRefusedUnit}
 use Rattle.asked_service.specs.Scripts.{script_in}
 use Rattle.derive_command.specs.trace_profile.Derived.{IsDerived, IsOnlyOne}
 use Rattle.derive_command.specs.trace_profile.Extended.{drop_in_text, open_unit}
 use Rattle.asked_service.specs.unit_inputs.Inputs.{Inputs, inputs_of}
-use Rattle.asked_service.specs.unit_launch.Refusals.{refusal_line}
-use Rattle.asked_service.specs.declared.unit_launch.refusal.LaunchRefusal.{LaunchRefusal}
+use Rattle.asked_service.specs.launching.Refusals.{launch_line}
+use Rattle.asked_service.specs.launcher.declared.error.LaunchError.{LaunchError}
 use Rattle.asked_service.specs.unit_names.Cutting.{name_of}
 use Rattle.derive_command.specs.Refusals.{derive_refusals}
 
@@ -20,8 +20,8 @@ pub data PrintsAnswer (inputs : Inputs) (script : List Call) : ExitStatus → Li
   derived : (names : List ℕ) → IsDerived inputs.unit inputs.calls inputs.site script names
       → IsOnlyOne inputs.unit inputs.calls inputs.site script names
       → PrintsAnswer inputs script Done (drop_in_text inputs.calls names)
-  refused : (refusal : LaunchRefusal) → IsRefusedUnit (open_unit inputs.unit inputs.calls) inputs.calls inputs.site refusal
-      → PrintsAnswer inputs script LaunchRefused (refusal_line refusal)
+  refused : (error : LaunchError) → IsRefusedUnit (open_unit inputs.unit inputs.calls) inputs.calls inputs.site error
+      → PrintsAnswer inputs script LaunchRefused (launch_line error)
 
 -- the inputs of the unit and the script, as the table of calls reads it, and what is derived from them
 pub record PrintsDerived (files : Files) (unit path : List ℕ) (status : ExitStatus) (text : List ℕ) : Type 0 where

@@ -5,7 +5,7 @@ use Rattle.asked_service.specs.host_io.Files.{Files}
 use Rattle.asked_service.specs.kernel_model.declared.kernel_calls.call.Call.{Call}
 use Rattle.asked_service.specs.unit_inputs.command_answers.Refusals.{refused_line}
 use Rattle.asked_service.specs.Scripts.{script_in}
-use Rattle.asked_service.specs.started_units.Starting.{start_refusals}
+use Rattle.asked_service.specs.launching.Starting.{start_refusals}
 use Rattle.derive_command.specs.trace_profile.Extended.{open_unit}
 use Rattle.derive_command.specs.trace_profile.Scripts.{first_seccomp}
 use Rattle.asked_service.specs.unit_inputs.Inputs.{Inputs, input_refusals, inputs_of}

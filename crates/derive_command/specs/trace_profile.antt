@@ -1,4 +1,3 @@
-pub mod Errors
 pub mod Extended
 pub mod Replies
 pub mod Scripts

@@ -1,7 +1,7 @@
 //! Finds the least list of calls that a service must be allowed for a script of calls.
 //!
 //! If you know what a service calls, by a trace or a test run, this is the one `SystemCallFilter=` that lets it through. The
-//! search launches the unit with lists of names and makes the calls of the script (`launched_units`, and the step of
+//! search launches the unit with lists of names and makes the calls of the script (`launch_unit`, and the step of
 //! `kernel_model`). [`allow_laws`] says why trying a name at a time is enough.
 //!
 //! `derive(alloc, &unit, &calls, &site, &script)?.names` are places of call lines, and `drop_in` is the text that allows them.

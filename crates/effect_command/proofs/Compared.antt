@@ -1,5 +1,5 @@
 -- What two services are compared by is what changes.
-use Rattle.std.proofs.Common.{◌≡◌, ◌∙◌, ℕ, List, ap, ap₂, refl, sym, subst}
+use Rattle.std.proofs.Common.{◌≡◌, ◌∙◌, ℕ, List, Ok, ap, ap₂, refl, sym, subst}
 use Rattle.std.specs.Prelude.{map}
 use Rattle.asked_service.specs.Asking.{IsAsked, launch_in, world_in}
 use Rattle.asked_service.specs.declared.asking.Asked.{Asked}
@@ -11,7 +11,6 @@ use Rattle.asked_service.specs.kernel_laws.Questions.{questions}
 use Rattle.asked_service.specs.launcher.declared.launched.Launched.{Launched as Service}
 use Rattle.asked_service.specs.kernel_laws.declared.question_types.question.Question.{Question}
 use Rattle.asked_service.specs.site_table.Table.{Site}
-use Rattle.asked_service.specs.declared.unit_launch.launching.UnitLaunch.TheVariants.{Launched}
 use Rattle.asked_service.specs.verdict_changes.ByRule.{ChangesAreTrue, changes_by}
 use Rattle.asked_service.specs.verdict_changes.Changes.{Change}
 use Rattle.effect_command.specs.Lines.{effect_text}
@@ -21,10 +20,10 @@ use Rattle.effect_command.specs.Told.{told_text}
 
 -- the tables that a service is launched over
 pub own_calls : (table : calls.Table) (site : Site) (service : Service) → IsOver table site service → service.world.calls ≡ table
-own_calls table site service is = ap (λ made. made.calls) is.launched.leaves_one_process.leaves.is
+own_calls table site service is = ap (λ made. made.calls) is.1.launched.leaves_one_process.leaves.is
 
 pub own_site : (table : calls.Table) (site : Site) (service : Service) → IsOver table site service → service.world.site ≡ site
-own_site table site service is = ap (λ made. made.site) is.launched.leaves_one_process.leaves.is
+own_site table site service is = ap (λ made. made.site) is.1.launched.leaves_one_process.leaves.is
 
 module _ (table : calls.Table) (site : Site) (before after : Service) (one : IsOver table site before) (other : IsOver table site after) (first second : Asked) (same_first : first.bounded.service ≡ before) (same_second : second.bounded.service ≡ after) where
   pub same_calls : (world_in first).calls ≡ (world_in second).calls
@@ -52,14 +51,14 @@ module _ (table : calls.Table) (site : Site) (before after : Service) (one : IsO
       (own_calls table site after other) (own_site table site after other)
 
   pub compared : ChangesAreTrue → IsAsked second → (status : ExitStatus) (text : List ℕ) → status ≡ Done → text ≡ told_text first second
-      → TellsBoth table site (Launched before) (Launched after) status text
+      → TellsBoth table site (Ok before) (Ok after) status text
   compared are_true is status text ends says = (
     ends,
     (
       found,
       (
-        are_true table site before.world after.world before.program after.program one.launched.is_served one.launched.runs_its_program
-            other.launched.is_served other.launched.runs_its_program
+        are_true table site before.world after.world before.program after.program one.1.launched.is_served one.1.launched.runs_its_program
+            other.1.launched.is_served other.1.launched.runs_its_program
             (own_calls table site before one) (own_site table site before one) (own_calls table site after other)
             (own_site table site after other),
         says ∙ text_is is,

@@ -20,13 +20,13 @@ use Rattle.asked_service.specs.unit_names.Names.{Name}
 use Rattle.asked_service.specs.unit_grammar.declared.unit.UnitText.{UnitText}
 use Rattle.asked_service.specs.unit_inputs.Inputs.{Inputs, input_refusals, inputs_of, inputs_view}
 use Rattle.asked_service.specs.unit_inputs.declared.inputs.UnitInputs.{UnitInputs}
-use Rattle.asked_service.specs.declared.unit_launch.launching.UnitLaunch.{UnitLaunch}
-use Rattle.asked_service.specs.declared.unit_launch.launching.UnitLaunch.TheVariants.{Launched, Refused}
+use Rattle.asked_service.specs.launcher.declared.error.LaunchError.{LaunchError}
+use Rattle.asked_service.specs.launcher.declared.launched.Launched.{Launched as Service}
 use Rattle.asked_service.specs.unit_inputs.Settled.{refusals_by}
 use Rattle.asked_service.proofs.OfUnitInputs.Steps as steps
 use Rattle.asked_service.proofs.OfUnitInputs.Steps.{AreRead, refusals_with}
 use Rattle.effect_command.specs.Lines.{with_line}
-use Rattle.asked_service.specs.started_units.Starting.{StartsAs, first_start, given, start_refusals}
+use Rattle.asked_service.specs.launching.Starting.{StartsAs, first_start, given, start_refusals}
 use Rattle.effect_command.specs.Longer.{dropin_in, longer_unit, with_dropin}
 use Rattle.asked_service.specs.unit_inputs.command_answers.ReadyTexts.{IsReadyWith, status_of, text_of}
 use Rattle.effect_command.specs.Prints.{PrintsEffect, TellsBoth, TellsWith, effect_laws}
@@ -40,26 +40,26 @@ module _ (unit : List ℕ) (inputs : Inputs) (more : UnitText) where
   Answers result = Prepares (λ made. TellsWith inputs more (status_of made) (text_of made)) (refusals_behind_dropin unit inputs more) result
 
   -- the unit is refused
-  pub answers_refused : (stop : CommandError) → Prepares {T = UnitLaunch} (StartsAs inputs) (start_refusals unit inputs) (Err stop)
+  pub answers_refused : (stop : CommandError) → Prepares {T = Result Service LaunchError} (StartsAs inputs) (start_refusals unit inputs) (Err stop)
       → Answers (Err stop)
   answers_refused (stop.Refused line) is =
       ap (λ found. first_refusal (found ∷ (option_map with_line (first_start unit (with_dropin inputs more)) ∷ []))) is
   answers_refused stop.ReadFault is = tt
   answers_refused stop.Memory is = tt
 
-  module _ (first : UnitLaunch) (starts : Prepares (StartsAs inputs) (start_refusals unit inputs) (Ok first)) where
+  module _ (first : Result Service LaunchError) (starts : Prepares (StartsAs inputs) (start_refusals unit inputs) (Ok first)) where
     behind_unit : first_refusal (refusals_behind_dropin unit inputs more)
         ≡ first_refusal (option_map with_line (first_start unit (with_dropin inputs more)) ∷ [])
     behind_unit = ap (λ found. first_refusal (found ∷ (option_map with_line (first_start unit (with_dropin inputs more)) ∷ []))) starts.0
 
     -- the unit with the drop-in is
-    pub answers_refused_with : (why : CommandError) → Prepares {T = UnitLaunch} (StartsAs (with_dropin inputs more))
+    pub answers_refused_with : (why : CommandError) → Prepares {T = Result Service LaunchError} (StartsAs (with_dropin inputs more))
         (option_map with_line (first_start unit (with_dropin inputs more)) ∷ []) (Err why) → Answers (Err why)
     answers_refused_with why is = stops_as (λ made. TellsWith inputs more (status_of made) (text_of made)) why
         (option_map with_line (first_start unit (with_dropin inputs more)) ∷ []) (refusals_behind_dropin unit inputs more) behind_unit
         (as_any why is)
       where
-        as_any : (why : CommandError) → Prepares {T = UnitLaunch} (StartsAs (with_dropin inputs more))
+        as_any : (why : CommandError) → Prepares {T = Result Service LaunchError} (StartsAs (with_dropin inputs more))
             (option_map with_line (first_start unit (with_dropin inputs more)) ∷ []) (Err why)
             → Prepares (λ (made : ReadyText). TellsWith inputs more (status_of made) (text_of made))
             (option_map with_line (first_start unit (with_dropin inputs more)) ∷ []) (Err why)
@@ -68,7 +68,7 @@ module _ (unit : List ℕ) (inputs : Inputs) (more : UnitText) where
         as_any stop.Memory is = tt
 
     -- both start, and are compared
-    pub answers_both : (second : UnitLaunch) → Prepares (StartsAs (with_dropin inputs more))
+    pub answers_both : (second : Result Service LaunchError) → Prepares (StartsAs (with_dropin inputs more))
         (option_map with_line (first_start unit (with_dropin inputs more)) ∷ []) (Ok second)
         → (result : Result ReadyText CommandError) → IsReadyWith (TellsBoth inputs.calls inputs.site first second) result → Answers result
     answers_both second starts_with (Ok effect) ready = (behind_unit ∙ starts_with.0, record { first = first; starts = starts.1; second = second; starts_with = starts_with.1; tells = ready })
@@ -77,12 +77,12 @@ module _ (unit : List ℕ) (inputs : Inputs) (more : UnitText) where
     answers_both second starts_with (Err stop.Memory) ready = tt
 
 -- what starts for a unit starts over its tables
-pub starts_over : (inputs : Inputs) (launch : UnitLaunch) → StartsAs inputs launch → StartsOver inputs.calls inputs.site launch
-starts_over inputs (Launched service) is = record { settings = is.settings; plan = is.plan; launched = is.comes_to }
-starts_over inputs (Refused refusal) is = tt
+pub starts_over : (inputs : Inputs) (launch : Result Service LaunchError) → StartsAs inputs launch → StartsOver inputs.calls inputs.site launch
+starts_over inputs (Ok service) is = (inputs.unit, is)
+starts_over inputs (Err error) is = tt
 
 pub with_longer : (name : List ℕ) (calls : Table) (site : Site) (unit : Resolved) (more : UnitText) (own : Resolved)
-    → own ≡ longer_unit unit more → (result : Result UnitLaunch CommandError)
+    → own ≡ longer_unit unit more → (result : Result (Result Service LaunchError) CommandError)
     → Prepares (StartsAs (given own calls site)) (option_map with_line (first_start name (given own calls site)) ∷ []) result
     → Prepares (StartsAs (with_dropin (given unit calls site) more))
     (option_map with_line (first_start name (with_dropin (given unit calls site) more)) ∷ []) result
@@ -91,11 +91,11 @@ with_longer name calls site unit more own is result said = subst
     (option_map with_line (first_start name (given these calls site)) ∷ []) result) is said
 
 -- each ends as it may
-ends_so : (table : Table) (site : Site) (first second : UnitLaunch) (status : ExitStatus) (text : List ℕ)
+ends_so : (table : Table) (site : Site) (first second : Result Service LaunchError) (status : ExitStatus) (text : List ℕ)
     → TellsBoth table site first second status text → (status ≡ Done) ⊎ (status ≡ LaunchRefused)
-ends_so table site (Refused refusal) second status text tells = inr tells.0
-ends_so table site (Launched before) (Refused refusal) status text tells = inr tells.0
-ends_so table site (Launched before) (Launched after) status text tells = inl tells.0
+ends_so table site (Err error) second status text tells = inr tells.0
+ends_so table site (Ok before) (Err error) status text tells = inr tells.0
+ends_so table site (Ok before) (Ok after) status text tells = inl tells.0
 
 -- ---- the whole
 module _ (told : Option Files) (unit path : List ℕ) where

@@ -6,8 +6,9 @@ use Rattle.asked_service.specs.unit_inputs.command_answers.CommandErrors.{Prepar
 use Rattle.asked_service.specs.unit_inputs.declared.command_answers.error.CommandError.{CommandError}
 use Rattle.asked_service.specs.unit_inputs.declared.command_answers.error.CommandError.TheVariants as stop
 use Rattle.asked_service.specs.unit_inputs.Inputs.{Inputs}
-use Rattle.asked_service.specs.declared.unit_launch.launching.UnitLaunch.{UnitLaunch}
-use Rattle.asked_service.specs.started_units.Starting.{StartsAs, first_start, start_refusals}
+use Rattle.asked_service.specs.launcher.declared.error.LaunchError.{LaunchError}
+use Rattle.asked_service.specs.launcher.declared.launched.Launched.{Launched as Service}
+use Rattle.asked_service.specs.launching.Starting.{StartsAs, first_start, start_refusals}
 use Rattle.effect_command.specs.Lines.{with_line}
 use Rattle.effect_command.specs.Stopping.{IsBehindWith}
 
@@ -17,11 +18,11 @@ behind_tells (Ok line) first told is holds = subst (IsBehindWith (stop.Refused f
 behind_tells (Err none) first told is holds = subst (IsBehindWith (stop.Refused first)) (sym is) tt
 
 module _ (unit : List ℕ) (inputs : Inputs) where
-  abbrev IsStarted : Result UnitLaunch CommandError → Type 0
+  abbrev IsStarted : Result (Result Service LaunchError) CommandError → Type 0
   IsStarted result = Prepares (StartsAs inputs) (start_refusals unit inputs) result
 
   -- the same behind the word
-  pub starts_with_ok : (launch : UnitLaunch) → IsStarted (Ok launch)
+  pub starts_with_ok : (launch : Result Service LaunchError) → IsStarted (Ok launch)
       → Prepares (StartsAs inputs) (option_map with_line (first_start unit inputs) ∷ []) (Ok launch)
   starts_with_ok launch is = (ap (λ found. first_refusal (option_map with_line found ∷ [])) is.0, is.1)
 
@@ -36,8 +37,8 @@ module _ (unit : List ℕ) (inputs : Inputs) where
   starts_with_stop stop.Memory told is behind =
       subst (λ one. Prepares (StartsAs inputs) (option_map with_line (first_start unit inputs) ∷ []) (Err one)) (sym behind) tt
 
-pub behind_reads_nothing : (why told : CommandError) → (IsErrOf {T = UnitLaunch} (Err why) stop.ReadFault → ⊥) → IsBehindWith why told
-    → IsErrOf {T = UnitLaunch} (Err told) stop.ReadFault → ⊥
+pub behind_reads_nothing : (why told : CommandError) → (IsErrOf {T = Result Service LaunchError} (Err why) stop.ReadFault → ⊥) → IsBehindWith why told
+    → IsErrOf {T = Result Service LaunchError} (Err told) stop.ReadFault → ⊥
 behind_reads_nothing (stop.Refused line) (stop.Refused other) nothing behind e = cc
 behind_reads_nothing (stop.Refused line) stop.ReadFault nothing behind e = absurd behind
 behind_reads_nothing (stop.Refused line) stop.Memory nothing behind e = cc

@@ -1,17 +1,17 @@
 -- What `effect` prints, by the files.
-use Rattle.std.specs.Prelude.{◌≡◌, ◌⊎◌, ℕ, IsSome, List, Some, Ok}
+use Rattle.std.specs.Prelude.{◌≡◌, ◌⊎◌, ℕ, IsSome, List, Some, Result, Ok, Err}
 use Rattle.asked_service.specs.host_io.Files.{Files}
 use Rattle.asked_service.specs.call_table.Table as calls
 use Rattle.asked_service.specs.site_table.Table.{Site}
 use Rattle.asked_service.specs.unit_inputs.command_answers.Laws.{FileLaws}
 use Rattle.asked_service.specs.unit_inputs.declared.command_answers.exit_status.ExitStatus.{ExitStatus}
 use Rattle.asked_service.specs.unit_inputs.declared.command_answers.exit_status.ExitStatus.TheVariants.{Done, LaunchRefused}
-use Rattle.asked_service.specs.started_units.Starting.{StartsAs}
+use Rattle.asked_service.specs.launching.Starting.{StartsAs}
 use Rattle.asked_service.specs.unit_grammar.declared.unit.UnitText.{UnitText}
 use Rattle.asked_service.specs.unit_inputs.Inputs.{Inputs, inputs_of}
-use Rattle.asked_service.specs.unit_launch.Refusals.{refusal_line}
-use Rattle.asked_service.specs.declared.unit_launch.launching.UnitLaunch.{UnitLaunch}
-use Rattle.asked_service.specs.declared.unit_launch.launching.UnitLaunch.TheVariants.{Launched, Refused}
+use Rattle.asked_service.specs.launching.Refusals.{launch_line}
+use Rattle.asked_service.specs.launcher.declared.error.LaunchError.{LaunchError}
+use Rattle.asked_service.specs.launcher.declared.launched.Launched.{Launched as Service}
 use Rattle.asked_service.specs.unit_names.Cutting.{name_of}
 use Rattle.asked_service.specs.verdict_changes.Changes.{AreChanges, Change}
 use Rattle.effect_command.specs.Lines.{effect_text, with_line}
@@ -20,18 +20,18 @@ use Rattle.effect_command.specs.Refusals.{effect_refusals}
 
 -- the launch of the unit is refused; or the launch with the drop-in is refused, and its line follows the word `with`; or both
 -- succeed. Then the text has exactly the changes from the first service to the second, with their counts
-abbrev pub TellsBoth : calls.Table → Site → UnitLaunch → UnitLaunch → ExitStatus → List ℕ → Type 0
-TellsBoth table site (Refused refusal) second status text = (status ≡ LaunchRefused) × (text ≡ refusal_line refusal)
-TellsBoth table site (Launched before) (Refused refusal) status text = (status ≡ LaunchRefused) × (text ≡ with_line (refusal_line refusal))
-TellsBoth table site (Launched before) (Launched after) status text =
+abbrev pub TellsBoth : calls.Table → Site → Result Service LaunchError → Result Service LaunchError → ExitStatus → List ℕ → Type 0
+TellsBoth table site (Err error) second status text = (status ≡ LaunchRefused) × (text ≡ launch_line error)
+TellsBoth table site (Ok before) (Err error) status text = (status ≡ LaunchRefused) × (text ≡ with_line (launch_line error))
+TellsBoth table site (Ok before) (Ok after) status text =
     (status ≡ Done) × ((changes : List Change) ×
     (AreChanges table site before.world after.world changes × (text ≡ effect_text table site changes)))
 
 -- the launches of the unit and of the unit with the drop-in, and the text for them
 pub record TellsWith (inputs : Inputs) (more : UnitText) (status : ExitStatus) (text : List ℕ) : Type 0 where
-  pub first : UnitLaunch
+  pub first : Result Service LaunchError
   pub starts : StartsAs inputs first
-  pub second : UnitLaunch
+  pub second : Result Service LaunchError
   pub starts_with : StartsAs (with_dropin inputs more) second
   pub tells : TellsBoth inputs.calls inputs.site first second status text
 

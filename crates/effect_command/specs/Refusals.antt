@@ -1,7 +1,7 @@
 -- What `effect` refuses, in the order of refusals.
 use Rattle.std.specs.Prelude.{ℕ, List, [], ◌∷◌, ◌++◌, Option, Some, None, map, option_map, Result, Ok, Err}
 use Rattle.asked_service.specs.host_io.Files.{Files}
-use Rattle.asked_service.specs.started_units.Starting.{first_start}
+use Rattle.asked_service.specs.launching.Starting.{first_start}
 use Rattle.asked_service.specs.unit_grammar.declared.unit.UnitText.{UnitText}
 use Rattle.asked_service.specs.unit_inputs.Inputs.{Inputs, input_refusals, inputs_of}
 use Rattle.asked_service.specs.unit_inputs.Settled.{refusals_by}

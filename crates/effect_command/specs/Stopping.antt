@@ -1,15 +1,13 @@
 -- What the steps of an answer ask of each other.
-use Rattle.std.specs.Prelude.{◌≡◌, List}
+use Rattle.std.specs.Prelude.{◌≡◌, Result, Ok, Err}
 use Rattle.asked_service.specs.call_table.Table as calls
 use Rattle.asked_service.specs.unit_inputs.declared.command_answers.error.CommandError.{CommandError}
 use Rattle.asked_service.specs.unit_inputs.declared.command_answers.error.CommandError.TheVariants as stop
-use Rattle.asked_service.specs.exec_settings.declared.service.Settings.{Settings}
-use Rattle.asked_service.specs.kern_mounts.declared.step.MountStep.{MountStep}
 use Rattle.asked_service.specs.launcher.declared.launched.Launched.{Launched as Service}
 use Rattle.asked_service.specs.site_table.Table.{Site}
-use Rattle.asked_service.specs.unit_launch.Launching.{IsLaunched}
-use Rattle.asked_service.specs.declared.unit_launch.launching.UnitLaunch.{UnitLaunch}
-use Rattle.asked_service.specs.declared.unit_launch.launching.UnitLaunch.TheVariants.{Launched, Refused}
+use Rattle.asked_service.specs.dropin_merge.declared.resolved.Resolved.{Resolved}
+use Rattle.asked_service.specs.launcher.declared.error.LaunchError.{LaunchError}
+use Rattle.asked_service.specs.launching.Launched.{IsLaunchedUnit}
 use Rattle.effect_command.specs.Lines.{with_line}
 
 -- the same refusal, of the unit with the drop-in, unless memory ran out
@@ -20,16 +18,13 @@ IsBehindWith (stop.Refused line) stop.Memory = Unit {0}
 IsBehindWith stop.ReadFault told = told ≡ stop.ReadFault
 IsBehindWith stop.Memory told = told ≡ stop.Memory
 
--- the launch of some settings on some plan over these tables ended in the service
-pub record IsOver (table : calls.Table) (site : Site) (service : Service) : Type 0 where
-  pub settings : Settings
-  pub plan : List MountStep
-  pub launched : IsLaunched table site settings plan service
+-- what is launched is launched for some unit over these tables
+abbrev pub IsOver : calls.Table → Site → Service → Type 0
+IsOver table site service = (unit : Resolved) × IsLaunchedUnit unit table site service
 
--- what is launched is launched over these tables
-abbrev pub StartsOver : calls.Table → Site → UnitLaunch → Type 0
-StartsOver table site (Launched service) = IsOver table site service
-StartsOver table site (Refused refusal) = Unit {0}
+abbrev pub StartsOver : calls.Table → Site → Result Service LaunchError → Type 0
+StartsOver table site (Ok service) = IsOver table site service
+StartsOver table site (Err error) = Unit {0}
 
 -- over the same tables
 pub record AreTogether (before after : Service) : Type 0 where
@@ -38,7 +33,7 @@ pub record AreTogether (before after : Service) : Type 0 where
   pub first : IsOver table site before
   pub second : IsOver table site after
 
-pub record StartTogether (first second : UnitLaunch) : Type 0 where
+pub record StartTogether (first second : Result Service LaunchError) : Type 0 where
   pub table : calls.Table
   pub site : Site
   pub starts : StartsOver table site first

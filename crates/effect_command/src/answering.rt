@@ -1,14 +1,14 @@
 //! What a drop-in changes for a unit.
 ghost use Rattle.std.specs.Prelude.{IsErrOf};
 ghost use Rattle.asked_service.specs.unit_inputs.command_answers.CommandErrors.{Prepares};
-ghost use Rattle.asked_service.specs.started_units.Starting.{given};
+ghost use Rattle.asked_service.specs.launching.Starting.{given};
 ghost use Rattle.asked_service.specs.unit_inputs.command_answers.ReadyTexts.{status_of, text_of};
 ghost use Rattle.effect_command.specs.Prints.{TellsWith};
 ghost use Rattle.effect_command.specs.Refusals.{refusals_behind_dropin};
 
 use crate::comparing::compare;
-use crate::starting::start_with;
-use asked_service::{CallTable, CommandError, ReadyText, Resolved, SiteTable, UnitText, start};
+use crate::starting::{start, start_with};
+use asked_service::{CallTable, CommandError, ReadyText, Resolved, SiteTable, UnitText};
 use std::alloc::Global;
 
 /// Launches the unit, and the unit with the drop-in after its files, and prints the changes; or finds the first refusal of

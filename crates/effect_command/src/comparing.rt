@@ -1,38 +1,35 @@
 //! The text for two launches.
-ghost use Rattle.std.specs.Prelude.{◌≡◌, IfOk};
+ghost use Rattle.std.specs.Prelude.{◌≡◌, Err, IfOk, Ok};
 ghost use Rattle.asked_service.specs.call_table.Table.{Table};
 ghost use Rattle.asked_service.specs.unit_inputs.declared.command_answers.exit_status.ExitStatus.TheVariants.{LaunchRefused};
 ghost use Rattle.asked_service.specs.site_table.Table.{Site};
-ghost use Rattle.asked_service.specs.unit_launch.Refusals.{refusal_line};
+ghost use Rattle.asked_service.specs.launching.Refusals.{launch_line};
 ghost use Rattle.effect_command.specs.Lines.{with_line};
 ghost use Rattle.effect_command.specs.Prints.{TellsBoth};
 ghost use Rattle.asked_service.specs.unit_inputs.command_answers.ReadyTexts.{IsReadyWith};
 ghost use Rattle.effect_command.specs.Stopping.{AreTogether, IsOver, StartTogether, StartsOver};
-ghost use Rattle.asked_service.specs.declared.unit_launch.launching.UnitLaunch.TheVariants.{Launched as Done};
 
 use crate::lines::with_line;
 use crate::telling::effect_text;
 use asked_service::verdict_changes::changes_are_true;
-use asked_service::{
-    CommandError, ExitStatus, LaunchRefusal, Launched, ReadyText, UnitLaunch, ask, refusal_line,
-};
+use asked_service::{CommandError, ExitStatus, LaunchError, Launched, ReadyText, ask, launch_line};
 use std::alloc::Global;
 
 // The line of a launch of the unit that is refused.
-fn tell_refused(alloc: Global, refusal: &LaunchRefusal) -> Result<ReadyText, CommandError>
-    ensures { IsReadyWith (λ status text. (status ≡ LaunchRefused) × (text ≡ refusal_line refusal.now)) result }
+fn tell_refused(alloc: Global, error: &LaunchError) -> Result<ReadyText, CommandError>
+    ensures { IsReadyWith (λ status text. (status ≡ LaunchRefused) × (text ≡ launch_line error.now)) result }
 {
     Ok(ReadyText {
-        text: refusal_line(alloc, refusal)?,
+        text: launch_line(alloc, error)?,
         status: ExitStatus::LaunchRefused,
     })
 }
 
 // The text for a refused launch of the unit with the drop-in.
-fn tell_refused_with(alloc: Global, refusal: &LaunchRefusal) -> Result<ReadyText, CommandError>
-    ensures { IsReadyWith (λ status text. (status ≡ LaunchRefused) × (text ≡ with_line (refusal_line refusal.now))) result }
+fn tell_refused_with(alloc: Global, error: &LaunchError) -> Result<ReadyText, CommandError>
+    ensures { IsReadyWith (λ status text. (status ≡ LaunchRefused) × (text ≡ with_line (launch_line error.now))) result }
 {
-    let line = refusal_line(alloc, refusal)?;
+    let line = launch_line(alloc, error)?;
     Ok(ReadyText {
         text: with_line(alloc, line.as_slice())?,
         status: ExitStatus::LaunchRefused,
@@ -46,7 +43,7 @@ fn compare_services(
     after: Launched<'_>,
 ) -> Result<ReadyText, CommandError>
     requires together { AreTogether before after }
-    ensures { (table : Table) (site : Site) → IsOver table site before.entry → IsOver table site after.entry → IsReadyWith (TellsBoth table site (Done before.entry) (Done after.entry)) result }
+    ensures { (table : Table) (site : Site) → IsOver table site before.entry → IsOver table site after.entry → IsReadyWith (TellsBoth table site (Ok before.entry) (Ok after.entry)) result }
 {
     // Why the changes are true.
     changes_are_true();
@@ -62,14 +59,14 @@ fn compare_services(
 fn compare_with(
     alloc: Global,
     before: Launched<'_>,
-    second: UnitLaunch<'_>,
+    second: Result<Launched<'_>, LaunchError>,
 ) -> Result<ReadyText, CommandError>
-    requires together { StartTogether (Done before) second }
-    ensures { (table : Table) (site : Site) → IsOver table site before.entry → StartsOver table site second.entry → IsReadyWith (TellsBoth table site (Done before.entry) second.entry) result }
+    requires together { StartTogether (Ok before) second }
+    ensures { (table : Table) (site : Site) → IsOver table site before.entry → StartsOver table site second.entry → IsReadyWith (TellsBoth table site (Ok before.entry) second.entry) result }
 {
     match second {
-        UnitLaunch::Launched(after) => compare_services(alloc, before, after),
-        UnitLaunch::Refused(refusal) => tell_refused_with(alloc, &refusal),
+        Ok(after) => compare_services(alloc, before, after),
+        Err(error) => tell_refused_with(alloc, &error),
     }
 }
 
@@ -77,14 +74,14 @@ fn compare_with(
 /// from one service to the other.
 pub fn compare(
     alloc: Global,
-    first: UnitLaunch<'_>,
-    second: UnitLaunch<'_>,
+    first: Result<Launched<'_>, LaunchError>,
+    second: Result<Launched<'_>, LaunchError>,
 ) -> Result<ReadyText, CommandError>
     requires together { StartTogether first second }
     ensures tells { (table : Table) (site : Site) → StartsOver table site first.entry → StartsOver table site second.entry → IsReadyWith (TellsBoth table site first.entry second.entry) result }
 {
     match first {
-        UnitLaunch::Launched(before) => compare_with(alloc, before, second),
-        UnitLaunch::Refused(refusal) => tell_refused(alloc, &refusal),
+        Ok(before) => compare_with(alloc, before, second),
+        Err(error) => tell_refused(alloc, &error),
     }
 }

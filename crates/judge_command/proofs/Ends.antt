@@ -1,14 +1,14 @@
 -- Each line ends in a line feed.
-use Rattle.std.proofs.Common.{List, ℕ, codes, inr}
+use Rattle.std.proofs.Common.{List, ℕ, codes, inl, inr, refl}
 use Rattle.std.specs.Prelude.{filter, length, not}
 use Rattle.std.specs.Fmt.{decimal}
 use Rattle.asked_service.specs.abs_path.Paths.{Path, text_of}
 use Rattle.asked_service.specs.text_forms.Escaped.{escaped_word}
 use Rattle.asked_service.specs.report_text.Launches.{launched_line, yes_or_no}
 use Rattle.asked_service.specs.report_text.declared.launches.Launched.{Launched as Line}
-use Rattle.asked_service.specs.unit_launch.Refusals.{refusal_line}
-use Rattle.asked_service.specs.declared.unit_launch.refusal.LaunchRefusal.{LaunchRefusal}
-use Rattle.asked_service.specs.declared.unit_launch.refusal.LaunchRefusal.TheVariants.{Privileged, Refused, Killed}
+use Rattle.asked_service.specs.launching.Refusals.{launch_line}
+use Rattle.asked_service.specs.launcher.declared.error.LaunchError.{LaunchError}
+use Rattle.asked_service.specs.launcher.declared.error.LaunchError.TheVariants as error
 use Rattle.asked_service.specs.unit_inputs.command_answers.Lines.{IsOfLines}
 use Rattle.asked_service.specs.call_table.Table.{Table}
 use Rattle.asked_service.specs.site_table.Table.{Site}
@@ -35,13 +35,14 @@ launched_ends launched =
     (ends_behind (codes " nnp ") _ (ends_behind (yes_or_no launched.no_new_privs) _
     (ends_behind (codes " steps ") _ (ends_behind (decimal launched.steps) _ ends_feed))))))))
 
-pub refusal_ends : (refusal : LaunchRefusal) → IsOfLines (refusal_line refusal)
-refusal_ends (Privileged program) = inr (ends_behind (codes "launch privileged ") _
+pub launch_ends : (why : LaunchError) → IsOfLines (launch_line why)
+launch_ends (error.PrivilegedProgram program) = inr (ends_behind (codes "launch privileged ") _
     (ends_behind (escaped_word (text_of program)) _ ends_feed))
-refusal_ends (Refused step errno) =
+launch_ends (error.Refused step errno) =
     inr (ends_behind (codes "launch refused step ") _ (ends_behind (decimal step) _
     (ends_behind (codes " errno ") _ (ends_behind (decimal errno) _ ends_feed))))
-refusal_ends (Killed step) = inr (ends_behind (codes "launch killed step ") _ (ends_behind (decimal step) _ ends_feed))
+launch_ends (error.Killed step) = inr (ends_behind (codes "launch killed step ") _ (ends_behind (decimal step) _ ends_feed))
+launch_ends error.Memory = inl refl
 
 pub unit_ends : (unit : List ℕ) → IsOfLines (unit_line unit)
 unit_ends unit = inr (ends_behind (codes "unit ") _ (ends_behind (escaped_word unit) _ ends_feed))

@@ -1,6 +1,6 @@
 -- A report that is prepared, started and printed runs by its laws.
-use Rattle.std.proofs.Common.{◌≡◌, ℕ, Option, Some, None, List, Ok, Err, refl, sym, ap, subst, inl, inr}
-use Rattle.std.specs.Prelude.{◌⊎◌, IfSome, IsTrue}
+use Rattle.std.proofs.Common.{◌≡◌, ℕ, Option, Some, None, List, Result, Ok, Err, ◌∙◌, refl, sym, ap, subst, inl, inr}
+use Rattle.std.specs.Prelude.{◌⊎◌, IfSome, IsErrOf, IsTrue}
 use Rattle.asked_service.specs.host_io.Files.{Files}
 use Rattle.asked_service.specs.unit_inputs.command_answers.ExitStatuses.{is_answer}
 use Rattle.asked_service.specs.unit_inputs.command_answers.Laws.{AcceptsFiles, GoTogether, laws_over}
@@ -10,24 +10,30 @@ use Rattle.asked_service.specs.unit_inputs.declared.command_answers.exit_status.
 use Rattle.asked_service.specs.unit_inputs.declared.command_answers.exit_status.ExitStatus.TheVariants.{Done, LaunchRefused}
 use Rattle.asked_service.specs.unit_inputs.declared.command_answers.error.CommandError.TheVariants as stop
 use Rattle.asked_service.proofs.OfUnitInputs.FileCommands.{go_together, ready_is_admitted}
-use Rattle.asked_service.proofs.OfUnitInputs.Refusing.{quiet}
+use Rattle.asked_service.proofs.OfUnitInputs.Refusing.{quiet, stops_as}
 use Rattle.asked_service.proofs.OfUnitInputs.Runs.{ran}
+use Rattle.asked_service.proofs.OfUnitInputs.Stopped.{ran_stopped}
 use Rattle.asked_service.specs.call_table.Table as calls
 use Rattle.asked_service.specs.site_table.Table.{Site}
-use Rattle.asked_service.specs.unit_launch.Launching.{ComesTo}
-use Rattle.asked_service.specs.declared.unit_launch.launching.UnitLaunch.{UnitLaunch}
-use Rattle.asked_service.specs.declared.unit_launch.launching.UnitLaunch.TheVariants as launch
+use Rattle.asked_service.specs.launching.Starting.{start_refusals}
+use Rattle.asked_service.specs.exec_settings.declared.service.Settings.{Settings}
+use Rattle.asked_service.specs.unit_inputs.Settled.{unit_refusals}
+use Rattle.asked_service.specs.unit_inputs.command_answers.Printing.{Finishes}
+use Rattle.asked_service.specs.unit_inputs.declared.command_answers.error.CommandError.{CommandError}
 use Rattle.asked_service.specs.plan_command.Prints.{plan_refusals}
 use Rattle.asked_service.specs.Asking.{IsAsked, launch_in, world_in}
 use Rattle.judge_command.specs.Asked.{asked_text}
 use Rattle.asked_service.specs.ByRule.{AnswersAreTrue, BlindFoldersAreNamed, answers_of, folders_of}
-use Rattle.judge_command.specs.Prepared.{IsPrepared, inputs_in}
+use Rattle.asked_service.specs.launching.Settled.{IsSettled, inputs_in}
+use Rattle.judge_command.specs.Prepared.{IsPrepared, unit_in}
 use Rattle.judge_command.specs.Prints.{PrintsReport, TellsLaunch, TellsService, judge_laws}
-use Rattle.judge_command.specs.Started.{FinishesStarted, IsStarted, status_of, text_of, told_text}
+use Rattle.judge_command.specs.Report.{report_text}
+use Rattle.judge_command.specs.Started.{FinishesStarted, IsStarted, launch_by, status_of, text_of, told_text}
+use Rattle.judge_command.proofs.Prepared.{behind_settings}
 use Rattle.asked_service.specs.declared.asking.Asked.{Asked}
 use Rattle.judge_command.specs.declared.launching.Outcome.{Outcome}
 use Rattle.judge_command.specs.declared.launching.Outcome.TheVariants as outcome
-use Rattle.judge_command.specs.declared.preparing.Prepared.{Prepared}
+use Rattle.asked_service.specs.unit_inputs.declared.settling.SettledUnit.{SettledUnit}
 
 module _ (told : Option Files) (unit : List ℕ) where
   -- each ending behind a report is an answer
@@ -41,12 +47,7 @@ module _ (told : Option Files) (unit : List ℕ) where
 -- a launch is done or refused
 ends_so : (came : Outcome) → (status_of came ≡ Done) ⊎ (status_of came ≡ LaunchRefused)
 ends_so (outcome.Asked asked) = inl refl
-ends_so (outcome.Refused refusal) = inr refl
-
--- what a launch came to
-abbrev launch_by : Outcome → UnitLaunch
-launch_by (outcome.Asked asked) = launch.Launched asked.bounded.service
-launch_by (outcome.Refused refusal) = launch.Refused refusal
+ends_so (outcome.Refused error) = inr refl
 
 module _ (answers : AnswersAreTrue) (folders : BlindFoldersAreNamed) where
   -- over the tables that the world was launched with
@@ -63,51 +64,61 @@ module _ (answers : AnswersAreTrue) (folders : BlindFoldersAreNamed) where
         is_its_text = refl;
       }))
 
-  module _ (prepared : Prepared) where
-    came_to : (came : Outcome) → IsStarted prepared came → ComesTo (inputs_in prepared).calls
-        (inputs_in prepared).site prepared.unit.settings.value prepared.plan (launch_by came)
-    came_to (outcome.Asked asked) started = started.0
-    came_to (outcome.Refused refusal) started = started
+  tells_it : (one : SettledUnit) (came : Outcome) → IsStarted one came → TellsLaunch (inputs_in one).calls (inputs_in one).site
+      (launch_by came) (status_of came) (told_text came)
+  tells_it one (outcome.Asked asked) started =
+      let left = started.0.0.launched.leaves_one_process.leaves.is in
+      (refl, over asked started.1 (inputs_in one).calls (inputs_in one).site (ap (λ made. made.calls) left) (ap (λ made. made.site) left))
+  tells_it one (outcome.Refused error) started = (refl, refl)
 
-    tells_it : (came : Outcome) → IsStarted prepared came → TellsLaunch (inputs_in prepared).calls (inputs_in prepared).site
-        (launch_by came) (status_of came) (told_text came)
-    tells_it (outcome.Asked asked) started =
-        (refl, over asked started.1 (inputs_in prepared).calls (inputs_in prepared).site (ap (λ made. made.calls) started.0.leaves_one_process.leaves.is) (ap (λ made. made.site) started.0.leaves_one_process.leaves.is))
-    tells_it (outcome.Refused refusal) started = (refl, refl)
+  -- what is started prints what the files say
+  prints_it : (told : Option Files) (unit : List ℕ) (one : SettledUnit) (came : Outcome) → IsSettled one
+      → IfSome told (λ files. Prepares (IsPrepared files unit) (unit_refusals files unit) (Ok one))
+      → Prepares (IsStarted one) (start_refusals unit (inputs_in one)) (Ok came)
+      → IfSome told (λ files. AcceptsFiles (judge_laws unit) files × PrintsReport files unit (status_of came) (text_of unit one came))
+  prints_it None unit one came settled is started = tt
+  prints_it (Some files) unit one came settled is started = (
+    behind_settings unit one files settled is.0 is.1 ∙ started.0,
+    record {
+      inputs = inputs_in one;
+      inputs_are = is.1;
+      launch = launch_by came;
+      starts = started.1.0.0;
+      told = told_text came;
+      tells = tells_it one came started.1;
+      is_its_text = ap (λ (own : Settings). report_text unit (unit_in one).files own.notes.items (told_text came))
+          (sym started.1.0.1);
+    },
+  )
 
-    -- what is started prints what the files say
-    prints_it : (told : Option Files) (unit : List ℕ) (came : Outcome) → IsStarted prepared came
-        → IfSome told (λ files. Prepares (IsPrepared files unit) (plan_refusals files unit) (Ok prepared))
-        → IfSome told (λ files. AcceptsFiles (judge_laws unit) files × PrintsReport files unit (status_of came)
-        (text_of unit prepared came))
-    prints_it None unit came started is = tt
-    prints_it (Some files) unit came started is = (
-      is.0,
-      record {
-        inputs = inputs_in prepared;
-        inputs_are = is.1.inputs;
-        settings = prepared.unit.settings.value;
-        are_settings = is.1.settings;
-        plan = prepared.plan;
-        is_plan = is.1.plan;
-        launch = launch_by came;
-        comes_to = came_to came started;
-        told = told_text came;
-        tells = tells_it came started;
-        is_its_text = refl;
-      },
-    )
+  -- a path is refused
+  stops_it : (told : Option Files) (unit : List ℕ) (one : SettledUnit) (why : CommandError) → IsSettled one
+      → IfSome told (λ files. Prepares (IsPrepared files unit) (unit_refusals files unit) (Ok one))
+      → Prepares (IsStarted one) (start_refusals unit (inputs_in one)) (Err why)
+      → IfSome told (λ files. Prepares (IsStarted one) (plan_refusals files unit) (Err why))
+  stops_it None unit one why settled is started = tt
+  stops_it (Some files) unit one why settled is started =
+      stops_as (IsStarted one) why (start_refusals unit (inputs_in one)) (plan_refusals files unit)
+      (behind_settings unit one files settled is.0 is.1) started
 
   -- a report that is prepared
-  pub ran_prepared : (told : Option Files) (unit : List ℕ) (outside : Outside) (ended : ExitStatus) (prepared : Prepared)
-      → IfSome told (λ files. Prepares (IsPrepared files unit) (plan_refusals files unit) (Ok prepared))
-      → HasReadCause outside.shelf_before outside.shelf_after (Ok prepared) → FinishesStarted unit prepared ended outside.sink
+  pub ran_prepared : (told : Option Files) (unit : List ℕ) (outside : Outside) (ended : ExitStatus) (one : SettledUnit) → IsSettled one
+      → IfSome told (λ files. Prepares (IsPrepared files unit) (unit_refusals files unit) (Ok one))
+      → HasReadCause outside.shelf_before outside.shelf_after (Ok one) → FinishesStarted unit one ended outside.sink
       → IsRun (laws_over told (judge_laws unit)) ended outside
-  ran_prepared told unit outside ended prepared is cause (inl printed) =
-      ran (laws_over told (judge_laws unit)) (together told unit) outside status_of (text_of unit prepared) (Ok printed.outcome) ended
-      (ready_is_admitted (judge_laws unit) status_of (text_of unit prepared) told printed.outcome (ends_so printed.outcome)
-      (prints_it prepared told unit printed.outcome printed.started is))
-      (λ e. cc) (quiet outside.shelf_before outside.shelf_after (Ok printed.outcome) cause.no_other_fault (λ e. cc)) printed.prints
-  ran_prepared told unit outside ended prepared is cause (inr out) =
-      ran (laws_over told (judge_laws unit)) (together told unit) outside status_of (text_of unit prepared) (Err stop.Memory) ended
-      tt (λ e. cc) (quiet outside.shelf_before outside.shelf_after (Err stop.Memory) cause.no_other_fault (λ e. cc)) out
+  ran_prepared told unit outside ended one settled is cause finished = by finished.result finished.starts finished.reads_nothing finished.finishes where
+    still : outside.shelf_after ≡ outside.shelf_before
+    still = cause.no_other_fault (λ e. cc)
+
+    by : (result : Result Outcome CommandError) → Prepares (IsStarted one) (start_refusals unit (inputs_in one)) result
+        → (IsErrOf result stop.ReadFault → ⊥) → Finishes status_of (text_of unit one) result ended outside.sink
+        → IsRun (laws_over told (judge_laws unit)) ended outside
+    by (Ok came) starts nothing finishes =
+        ran (laws_over told (judge_laws unit)) (together told unit) outside status_of (text_of unit one) (Ok came) ended
+        (ready_is_admitted (judge_laws unit) status_of (text_of unit one) told came (ends_so came)
+        (prints_it told unit one came settled is starts))
+        (λ e. cc) (quiet outside.shelf_before outside.shelf_after (Ok came) still nothing) finishes
+    by (Err why) starts nothing finishes =
+        ran_stopped (judge_laws unit) (λ files. IsStarted one) told (together told unit) outside ended why
+        (stops_it told unit one why settled is starts) (λ e. absurd (nothing e))
+        (quiet outside.shelf_before outside.shelf_after (Err why) still nothing) finishes

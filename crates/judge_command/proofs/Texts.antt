@@ -18,7 +18,7 @@ use Rattle.asked_service.specs.kernel_model.declared.kernel_calls.call.Call.{Cal
 use Rattle.asked_service.specs.report_text.Answers.{blind_line, call_line, open_lines, verdict_line}
 use Rattle.asked_service.specs.report_text.Launches.{launched_line}
 use Rattle.asked_service.specs.report_text.declared.launches.Launched.{Launched as Line}
-use Rattle.asked_service.specs.unit_launch.Told.{told_of}
+use Rattle.asked_service.specs.launching.Told.{told_of}
 use Rattle.asked_service.specs.host_io.Puts.{Put}
 use Rattle.asked_service.specs.host_io.declared.writing.SinkError.{SinkError}
 use Rattle.asked_service.specs.unit_inputs.command_answers.Printing.{PrintsAll, PrintsLines}

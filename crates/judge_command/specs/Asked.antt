@@ -6,7 +6,7 @@ use Rattle.asked_service.specs.kernel_laws.declared.question_types.verdict.Verdi
 use Rattle.asked_service.specs.kernel_laws.declared.question_types.verdict.Verdict.TheVariants as verdict
 use Rattle.asked_service.specs.kernel_laws.declared.question_types.question.Question.{Question}
 use Rattle.asked_service.specs.report_text.Answers.{blind_line}
-use Rattle.asked_service.specs.unit_launch.Told.{told_of}
+use Rattle.asked_service.specs.launching.Told.{told_of}
 use Rattle.asked_service.specs.Answers.{Answer}
 use Rattle.asked_service.specs.AnswerLines.{answer_lines}
 use Rattle.asked_service.specs.Asking.{is_named, launch_in, world_in}

@@ -1,11 +1,7 @@
 -- What `judge` prints, by the files.
-use Rattle.std.specs.Prelude.{◌≡◌, ◌⊎◌, ℕ, IsSome, List, Some}
+use Rattle.std.specs.Prelude.{◌≡◌, ◌⊎◌, ℕ, IsSome, List, Result, Some, Ok, Err}
 use Rattle.asked_service.specs.abs_path.Paths.{Path}
 use Rattle.asked_service.specs.host_io.Files.{Files}
-use Rattle.asked_service.specs.kern_mounts.declared.step.MountStep.{MountStep}
-use Rattle.asked_service.specs.mount_plan.Host.{host_of}
-use Rattle.asked_service.specs.exec_settings.Mounts.{unit_mentions}
-use Rattle.asked_service.specs.exec_settings.declared.service.Settings.{Settings}
 use Rattle.asked_service.specs.call_table.Table as calls
 use Rattle.asked_service.specs.site_table.Table.{Site}
 use Rattle.asked_service.specs.unit_inputs.command_answers.Laws.{FileLaws}
@@ -14,13 +10,10 @@ use Rattle.asked_service.specs.unit_inputs.declared.command_answers.exit_status.
 use Rattle.asked_service.specs.launcher.declared.launched.Launched.{Launched as Service}
 use Rattle.asked_service.specs.unit_inputs.Inputs.{Inputs, inputs_of}
 use Rattle.asked_service.specs.unit_names.Cutting.{name_of}
-use Rattle.asked_service.specs.unit_inputs.Settled.{AreSettled}
-use Rattle.asked_service.specs.unit_launch.Launching.{ComesTo}
-use Rattle.asked_service.specs.unit_launch.Refusals.{refusal_line}
-use Rattle.asked_service.specs.unit_launch.Told.{told_of}
-use Rattle.asked_service.specs.declared.unit_launch.launching.UnitLaunch.{UnitLaunch}
-use Rattle.asked_service.specs.declared.unit_launch.launching.UnitLaunch.TheVariants.{Launched, Refused}
-use Rattle.asked_service.specs.plan_command.Planned.{IsPlan}
+use Rattle.asked_service.specs.launching.Refusals.{launch_line}
+use Rattle.asked_service.specs.launching.Told.{told_of}
+use Rattle.asked_service.specs.launcher.declared.error.LaunchError.{LaunchError}
+use Rattle.asked_service.specs.launching.Starting.{StartsAs, settings_of}
 use Rattle.asked_service.specs.plan_command.Prints.{plan_refusals}
 use Rattle.asked_service.specs.Answers.{Answer, AreAnswers}
 use Rattle.asked_service.specs.Folders.{AreBlind}
@@ -36,24 +29,20 @@ pub record TellsService (table : calls.Table) (site : Site) (service : Service) 
   pub is_its_text : text ≡ service_text table site (told_of service.world service.steps) answers folders
 
 -- the same, or the line of a refused launch, with the ending after either
-abbrev pub TellsLaunch : calls.Table → Site → UnitLaunch → ExitStatus → List ℕ → Type 0
-TellsLaunch table site (Launched service) status text = (status ≡ Done) × TellsService table site service text
-TellsLaunch table site (Refused refusal) status text = (status ≡ LaunchRefused) × (text ≡ refusal_line refusal)
+abbrev pub TellsLaunch : calls.Table → Site → Result Service LaunchError → ExitStatus → List ℕ → Type 0
+TellsLaunch table site (Ok service) status text = (status ≡ Done) × TellsService table site service text
+TellsLaunch table site (Err error) status text = (status ≡ LaunchRefused) × (text ≡ launch_line error)
 
 -- the report on a unit: the unit is launched with its inputs, its settings and the plan of its mounts. The text has the unit
 -- and the notes, then the result of the launch
 pub record PrintsReport (files : Files) (unit : List ℕ) (status : ExitStatus) (text : List ℕ) : Type 0 where
   pub inputs : Inputs
   pub inputs_are : inputs_of files unit ≡ Some inputs
-  pub settings : Settings
-  pub are_settings : AreSettled inputs settings
-  pub plan : List MountStep
-  pub is_plan : IsPlan (host_of inputs.site) (unit_mentions inputs.unit inputs.site) plan
-  pub launch : UnitLaunch
-  pub comes_to : ComesTo inputs.calls inputs.site settings plan launch
+  pub launch : Result Service LaunchError
+  pub starts : StartsAs inputs launch
   pub told : List ℕ
   pub tells : TellsLaunch inputs.calls inputs.site launch status told
-  pub is_its_text : text ≡ report_text unit inputs.unit.files settings.notes.items told
+  pub is_its_text : text ≡ report_text unit inputs.unit.files (settings_of inputs launch starts).notes.items told
 
 -- the refusals of `plan`; the line of a refused launch follows the notes, with status 7
 abbrev pub judge_laws : List ℕ → FileLaws

@@ -6,34 +6,29 @@ ghost use Rattle.asked_service.specs.unit_inputs.command_answers.Asking.{course_
 ghost use Rattle.asked_service.specs.unit_inputs.command_answers.Laws.{laws_over};
 ghost use Rattle.asked_service.specs.unit_inputs.command_answers.Printing.{output_of};
 ghost use Rattle.asked_service.specs.unit_inputs.command_answers.Runs.{IsRun};
-ghost use Rattle.judge_command.specs.Prepared.{CanBeStarted};
+ghost use Rattle.asked_service.specs.launching.Settled.{IsSettled};
 ghost use Rattle.judge_command.specs.Prints.{judge_laws};
 ghost use Rattle.judge_command.specs.Started.{FinishesStarted};
 
 use crate::launching::{start, status_behind};
-use crate::preparing::{Prepared, prepare};
+use crate::preparing::prepare;
 use crate::printing::print_report;
-use asked_service::{ExitStatus, finish_error, status_after, truths};
+use asked_service::{ExitStatus, SettledUnit, finish_error, status_after, truths};
 use host_io::{Shelf, Sink};
 use std::alloc::Global;
 
-// Launches what is prepared and prints the report.
-fn answer_prepared<K: Sink>(
-    alloc: Global,
-    unit: &str,
-    prepared: &Prepared,
-    out: &mut K,
-) -> ExitStatus
-    requires can_be_started { CanBeStarted prepared.now }
-    ensures finishes { FinishesStarted unit.now prepared.now result (output_of K.faults K.taken K.puts out.old out.new) }
+// Launches what is prepared and prints the report, or the line of the path that is refused.
+fn answer_prepared<K: Sink>(alloc: Global, unit: &str, one: &SettledUnit, out: &mut K) -> ExitStatus
+    requires settled { IsSettled one.now }
+    ensures finishes { FinishesStarted unit.now one.now result (output_of K.faults K.taken K.puts out.old out.new) }
 {
-    match start(alloc, prepared) {
+    match start(alloc, unit, one) {
         Ok(outcome) => {
             let status = status_behind(&outcome);
-            let put = print_report(alloc, unit, &prepared.unit, &outcome, out);
+            let put = print_report(alloc, unit, one, &outcome, out);
             status_after(put, status)
         }
-        Err(_) => ExitStatus::OutOfMemory,
+        Err(stop) => finish_error(stop, out),
     }
 }
 
@@ -56,7 +51,7 @@ pub fn answer<S: Shelf, K: Sink>(
     // Why the answers are true.
     truths();
     match prepare(alloc, shelf, unit) {
-        Ok(prepared) => answer_prepared(alloc, unit, &prepared, out),
+        Ok(one) => answer_prepared(alloc, unit, &one, out),
         Err(stop) => finish_error(stop, out),
     }
 }

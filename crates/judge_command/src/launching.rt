@@ -1,12 +1,14 @@
 //! The launch of what is prepared.
-ghost use Rattle.std.specs.Prelude.{◌≡◌, IfOk};
-ghost use Rattle.judge_command.specs.Prepared.{CanBeStarted};
+ghost use Rattle.std.specs.Prelude.{◌≡◌, IsErrOf};
+ghost use Rattle.asked_service.specs.launching.Settled.{IsSettled, inputs_in};
+ghost use Rattle.asked_service.specs.launching.Starting.{start_refusals};
+ghost use Rattle.asked_service.specs.unit_inputs.command_answers.CommandErrors.{Prepares};
 ghost use Rattle.judge_command.specs.Started.{IsStarted, status_of};
 
-use crate::preparing::Prepared;
-use asked_service::unit_launch::{LaunchRefusal, UnitLaunch, launch_unit};
-use asked_service::{Asked, ExitStatus, ask};
-use std::alloc::{AllocError, Global};
+use asked_service::{
+    Asked, CommandError, ExitStatus, LaunchError, SettledUnit, ask, launch_settled, refused_launch,
+};
+use std::alloc::Global;
 
 /// What the launch of a unit came to.
 #[derive(Drop)]
@@ -14,25 +16,22 @@ pub enum Outcome<'a> {
     /// It ended well, and this is asked of the service.
     Asked(Asked<'a>),
     /// It is refused.
-    Refused(LaunchRefusal),
+    Refused(LaunchError),
 }
 
-/// Launches the prepared unit. The result borrows the tables of `prepared`.
-pub fn start<'a>(alloc: Global, prepared: &'a Prepared) -> Result<Outcome<'a>, AllocError>
-    requires can_be_started { CanBeStarted prepared.now }
-    ensures starts { IfOk result (IsStarted prepared.now) }
+/// Launches the prepared unit, or finds the first path that is refused. The result borrows the tables of the unit.
+pub fn start<'a>(
+    alloc: Global,
+    name: &str,
+    one: &'a SettledUnit,
+) -> Result<Outcome<'a>, CommandError>
+    requires settled { IsSettled one.now }
+    ensures starts { Prepares (IsStarted one.now) (start_refusals name.now (inputs_in one.now)) result }
+    ensures reads_nothing { IsErrOf result CommandError.ReadFault → ⊥ }
 {
-    let unit = &prepared.unit;
-    let launch = launch_unit(
-        alloc,
-        &unit.settings,
-        prepared.plan.list(),
-        &unit.inputs.calls,
-        &unit.inputs.site,
-    )?;
-    match launch {
-        UnitLaunch::Launched(service) => Ok(Outcome::Asked(ask(alloc, service)?)),
-        UnitLaunch::Refused(refusal) => Ok(Outcome::Refused(refusal)),
+    match launch_settled(alloc, one) {
+        Ok(service) => Ok(Outcome::Asked(ask(alloc, service)?)),
+        Err(refusal) => Ok(Outcome::Refused(refused_launch(alloc, name, refusal)?)),
     }
 }
 

@@ -11,7 +11,7 @@ ghost use Rattle.judge_command.specs.Started.{CanBeTold, told_text};
 use crate::answers::print_answers;
 use crate::folders::print_folders;
 use crate::launching::Outcome;
-use asked_service::unit_launch::{refusal_line, told};
+use asked_service::launching::{launch_line, told};
 use asked_service::{
     Asked, FileNote, Resolved, SettledUnit, launched_line, note_line, put_line,
     report_text_unit_line as unit_line, summary_line,
@@ -62,7 +62,7 @@ fn print_outcome<K: Sink>(
 {
     match outcome {
         Outcome::Asked(asked) => print_asked(alloc, asked, out),
-        Outcome::Refused(refusal) => put_line(out, refusal_line(alloc, refusal)),
+        Outcome::Refused(error) => put_line(out, launch_line(alloc, error)),
     }
 }
 

@@ -1,14 +1,10 @@
 -- A replay that is prepared, started and printed runs by its laws.
-use Rattle.std.proofs.Common.{◌≡◌, ◌∙◌, ℕ, Option, Some, None, List, Ok, Err, refl, sym, ap, subst, inl, inr}
-use Rattle.std.specs.Prelude.{◌⊎◌, IfSome, IsTrue}
+use Rattle.std.proofs.Common.{◌≡◌, ◌∙◌, ℕ, Option, Some, None, List, Result, Ok, Err, refl, sym, ap, subst, inl, inr}
+use Rattle.std.specs.Prelude.{◌⊎◌, IfSome, IsErrOf, IsTrue}
 use Rattle.asked_service.specs.host_io.Files.{Files}
-use Rattle.asked_service.specs.exec_settings.declared.service.Settings.{Settings}
-use Rattle.asked_service.specs.kern_mounts.declared.step.MountStep.{MountStep}
 use Rattle.asked_service.specs.kernel_model.kernel_calls.Calls.{AreCalls}
 use Rattle.asked_service.specs.kernel_model.declared.kernel_calls.call.Call.{Call}
 use Rattle.asked_service.specs.launcher.Alike.{above}
-use Rattle.asked_service.specs.site_table.Table.{Site}
-use Rattle.asked_service.specs.unit_launch.Launching.{ComesTo}
 use Rattle.asked_service.specs.call_table.Table.{Table}
 use Rattle.asked_service.specs.unit_inputs.command_answers.ExitStatuses.{is_answer}
 use Rattle.asked_service.specs.unit_inputs.command_answers.Laws.{AcceptsFiles, GoTogether, laws_over}
@@ -18,11 +14,18 @@ use Rattle.asked_service.specs.unit_inputs.declared.command_answers.exit_status.
 use Rattle.asked_service.specs.unit_inputs.declared.command_answers.exit_status.ExitStatus.TheVariants.{Done, LaunchRefused}
 use Rattle.asked_service.specs.unit_inputs.declared.command_answers.error.CommandError.TheVariants as stop
 use Rattle.asked_service.proofs.OfUnitInputs.FileCommands.{go_together, ready_is_admitted}
-use Rattle.asked_service.proofs.OfUnitInputs.Refusing.{quiet}
+use Rattle.asked_service.proofs.OfUnitInputs.Refusing.{quiet, stops_as}
 use Rattle.asked_service.proofs.OfUnitInputs.Runs.{ran}
-use Rattle.asked_service.specs.declared.unit_launch.launching.UnitLaunch.{UnitLaunch}
-use Rattle.asked_service.specs.declared.unit_launch.launching.UnitLaunch.TheVariants.{Launched, Refused}
-use Rattle.replay_command.specs.Prepared.{CanBeStarted, IsPrepared, inputs_in, replay_refusals}
+use Rattle.asked_service.proofs.OfUnitInputs.Stopped.{ran_stopped}
+use Rattle.asked_service.specs.launcher.declared.error.LaunchError.{LaunchError}
+use Rattle.asked_service.specs.launcher.declared.launched.Launched.{Launched as Service}
+use Rattle.asked_service.specs.launching.Settled.{inputs_in}
+use Rattle.asked_service.specs.launching.Starting.{StartsAs, start_refusals}
+use Rattle.asked_service.specs.unit_inputs.Inputs.{Inputs}
+use Rattle.asked_service.specs.unit_inputs.command_answers.Printing.{Finishes}
+use Rattle.asked_service.specs.unit_inputs.declared.command_answers.error.CommandError.{CommandError}
+use Rattle.replay_command.specs.Prepared.{CanBeStarted, IsPrepared, replay_refusals, settled_refusals}
+use Rattle.replay_command.proofs.Steps.{behind_settings}
 use Rattle.replay_command.specs.Prints.{PrintsReplay, RepliesAlike, replay_laws}
 use Rattle.replay_command.specs.Started.{FinishesStarted, IsStarted, status_of, text_of}
 use Rattle.replay_command.specs.Texts.{status_behind, replay_text}
@@ -39,58 +42,72 @@ module _ (told : Option Files) (unit path : List ℕ) where
   together = go_together (replay_laws unit path) told answered
 
 -- a launch is done or refused
-ends_so : (launch : UnitLaunch) → (status_behind launch ≡ Done) ⊎ (status_behind launch ≡ LaunchRefused)
-ends_so (Launched service) = inl refl
-ends_so (Refused refusal) = inr refl
+ends_so : (launch : Result Service LaunchError) → (status_behind launch ≡ Done) ⊎ (status_behind launch ≡ LaunchRefused)
+ends_so (Ok service) = inl refl
+ends_so (Err error) = inr refl
 
 -- the replies rest on no programs
-replies_go_on : (table : Table) (site : Site) (settings : Settings) (plan : List MountStep) (script : List Call) (launch : UnitLaunch)
-    → AreCalls script → ComesTo table site settings plan launch → RepliesAlike table site settings plan script launch
-replies_go_on table site settings plan script (Launched service) are launched =
+replies_go_on : (inputs : Inputs) (script : List Call) (launch : Result Service LaunchError) → AreCalls script
+    → (starts : StartsAs inputs launch) → RepliesAlike inputs script launch starts
+replies_go_on inputs script (Ok service) are starts =
     λ programs codes others.
-    let both = launched.whichever_programs programs codes others in
+    let both = starts.launched.whichever_programs programs codes others in
     ((above codes both.0.base, both.0.other, both.0.same_replies script are), both.1)
-replies_go_on table site settings plan script (Refused refusal) are refused = tt
+replies_go_on inputs script (Err error) are starts = tt
 
--- what is started prints what the files say
-prints_it : (told : Option Files) (unit path : List ℕ) (prepared : Prepared) (replay : Replay) → IsStarted prepared replay
-    → CanBeStarted prepared
-    → IfSome told (λ files. Prepares (IsPrepared files unit path) (replay_refusals files unit path) (Ok prepared))
-    → IfSome told (λ files. AcceptsFiles (replay_laws unit path) files × PrintsReplay files unit path (status_of replay) (text_of replay))
-prints_it None unit path prepared replay started can is = tt
-prints_it (Some files) unit path prepared replay started can is = (
-  is.0,
-  record {
-    inputs = inputs_in prepared;
-    inputs_are = is.1.inputs;
-    script = prepared.script;
-    script_is = is.1.script;
-    settings = prepared.unit.settings.value;
-    are_settings = is.1.settings;
-    plan = prepared.plan;
-    is_plan = is.1.plan;
-    launch = replay.launch;
-    comes_to = started.comes_to;
-    replies_alike = replies_go_on (inputs_in prepared).calls
-        (inputs_in prepared).site prepared.unit.settings.value prepared.plan prepared.script replay.launch can.calls started.comes_to;
-    is_its_text =
-        ap (λ (table : Table). replay_text table replay.script.now replay.launch) started.calls
-        ∙ ap (λ (script : List Call). replay_text (inputs_in prepared).calls script replay.launch) started.script;
-    is_its_status = refl;
-  },
-)
+module _ (told : Option Files) (unit path : List ℕ) (prepared : Prepared) (can : CanBeStarted prepared)
+    (is : IfSome told (λ files. Prepares (IsPrepared files unit path) (settled_refusals files unit path) (Ok prepared))) where
+  -- what is started prints what the files say
+  prints_it : (replay : Replay) → Prepares (IsStarted prepared) (start_refusals unit (inputs_in prepared.unit)) (Ok replay)
+      → IfSome told (λ files. AcceptsFiles (replay_laws unit path) files × PrintsReplay files unit path (status_of replay)
+      (text_of replay))
+  prints_it replay started = by told is where
+    by : (told : Option Files) → IfSome told (λ files. Prepares (IsPrepared files unit path) (settled_refusals files unit path) (Ok prepared))
+        → IfSome told (λ files. AcceptsFiles (replay_laws unit path) files × PrintsReplay files unit path (status_of replay)
+        (text_of replay))
+    by None is = tt
+    by (Some files) is = (
+      behind_settings files unit path prepared.unit can.settled is.0 is.1.inputs ∙ started.0,
+      record {
+        inputs = inputs_in prepared.unit;
+        inputs_are = is.1.inputs;
+        script = prepared.script;
+        script_is = is.1.script;
+        launch = replay.launch;
+        starts = started.1.starts.0;
+        replies_alike = replies_go_on (inputs_in prepared.unit) prepared.script replay.launch can.calls started.1.starts.0;
+        is_its_text =
+            ap (λ (table : Table). replay_text table replay.script.now replay.launch) started.1.calls
+            ∙ ap (λ (script : List Call). replay_text (inputs_in prepared.unit).calls script replay.launch) started.1.script;
+        is_its_status = refl;
+      },
+    )
 
-module _ (told : Option Files) (unit path : List ℕ) (outside : Outside) (ended : ExitStatus) where
+  -- a path is refused
+  stops_it : (why : CommandError) → Prepares (IsStarted prepared) (start_refusals unit (inputs_in prepared.unit)) (Err why)
+      → IfSome told (λ files. Prepares (IsStarted prepared) (replay_refusals files unit path) (Err why))
+  stops_it why started = by told is where
+    by : (told : Option Files) → IfSome told (λ files. Prepares (IsPrepared files unit path) (settled_refusals files unit path) (Ok prepared))
+        → IfSome told (λ files. Prepares (IsStarted prepared) (replay_refusals files unit path) (Err why))
+    by None is = tt
+    by (Some files) is =
+        stops_as (IsStarted prepared) why (start_refusals unit (inputs_in prepared.unit)) (replay_refusals files unit path)
+        (behind_settings files unit path prepared.unit can.settled is.0 is.1.inputs) started
+
   -- a replay that is prepared
-  pub ran_prepared : (prepared : Prepared) → CanBeStarted prepared
-      → IfSome told (λ files. Prepares (IsPrepared files unit path) (replay_refusals files unit path) (Ok prepared))
-      → HasReadCause outside.shelf_before outside.shelf_after (Ok prepared) → FinishesStarted prepared ended outside.sink
-      → IsRun (laws_over told (replay_laws unit path)) ended outside
-  ran_prepared prepared can is cause (inl printed) =
-      ran (laws_over told (replay_laws unit path)) (together told unit path) outside status_of text_of (Ok printed.replay) ended
-      (ready_is_admitted (replay_laws unit path) status_of text_of told printed.replay (ends_so printed.replay.launch)
-      (prints_it told unit path prepared printed.replay printed.started can is))
-      (λ e. cc) (quiet outside.shelf_before outside.shelf_after (Ok printed.replay) cause.no_other_fault (λ e. cc)) printed.prints
-  ran_prepared prepared can is cause (inr out) =
-      ran (laws_over told (replay_laws unit path)) (together told unit path) outside status_of text_of (Err stop.Memory) ended
-      tt (λ e. cc) (quiet outside.shelf_before outside.shelf_after (Err stop.Memory) cause.no_other_fault (λ e. cc)) out
+  pub ran_prepared : (outside : Outside) (ended : ExitStatus) → HasReadCause outside.shelf_before outside.shelf_after (Ok prepared)
+      → FinishesStarted unit prepared ended outside.sink → IsRun (laws_over told (replay_laws unit path)) ended outside
+  ran_prepared outside ended cause finished = by finished.result finished.starts finished.reads_nothing finished.finishes where
+    still : outside.shelf_after ≡ outside.shelf_before
+    still = cause.no_other_fault (λ e. cc)
+
+    by : (result : Result Replay CommandError) → Prepares (IsStarted prepared) (start_refusals unit (inputs_in prepared.unit)) result
+        → (IsErrOf result stop.ReadFault → ⊥) → Finishes status_of text_of result ended outside.sink
+        → IsRun (laws_over told (replay_laws unit path)) ended outside
+    by (Ok replay) starts nothing finishes =
+        ran (laws_over told (replay_laws unit path)) (together told unit path) outside status_of text_of (Ok replay) ended
+        (ready_is_admitted (replay_laws unit path) status_of text_of told replay (ends_so replay.launch) (prints_it replay starts))
+        (λ e. cc) (quiet outside.shelf_before outside.shelf_after (Ok replay) still nothing) finishes
+    by (Err why) starts nothing finishes =
+        ran_stopped (replay_laws unit path) (λ files. IsStarted prepared) told (together told unit path) outside ended why
+        (stops_it why starts) (λ e. absurd (nothing e)) (quiet outside.shelf_before outside.shelf_after (Err why) still nothing) finishes

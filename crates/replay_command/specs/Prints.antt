@@ -1,29 +1,21 @@
 -- What `replay` prints, by the files.
-use Rattle.std.specs.Prelude.{◌≡◌, ◌⊎◌, ℕ, IsSome, List, Some, Ok}
+use Rattle.std.specs.Prelude.{◌≡◌, ◌⊎◌, ℕ, IsSome, List, Result, Some, Ok, Err}
 use Rattle.asked_service.specs.host_io.Files.{Files}
-use Rattle.asked_service.specs.kern_mounts.declared.step.MountStep.{MountStep}
-use Rattle.asked_service.specs.mount_plan.Host.{host_of}
-use Rattle.asked_service.specs.exec_settings.Mounts.{unit_mentions}
-use Rattle.asked_service.specs.exec_settings.declared.service.Settings.{Settings}
 use Rattle.asked_service.specs.unit_inputs.command_answers.Laws.{FileLaws}
 use Rattle.asked_service.specs.unit_inputs.declared.command_answers.exit_status.ExitStatus.{ExitStatus}
 use Rattle.asked_service.specs.unit_inputs.declared.command_answers.exit_status.ExitStatus.TheVariants.{Done, LaunchRefused}
 use Rattle.asked_service.specs.kernel_model.declared.kernel_calls.call.Call.{Call}
 use Rattle.asked_service.specs.bpf_code.declared.machine.Insn.{Insn}
 use Rattle.asked_service.specs.kernel_model.World.{World}
-use Rattle.asked_service.specs.call_table.Table as calls
-use Rattle.asked_service.specs.site_table.Table.{Site}
 use Rattle.asked_service.specs.launcher.Alike.{SameReplies}
 use Rattle.asked_service.specs.launcher.Answers.{launch_with}
 use Rattle.asked_service.specs.launcher.Launch as ends
 use Rattle.asked_service.specs.unit_inputs.Inputs.{Inputs, inputs_of}
 use Rattle.asked_service.specs.unit_names.Cutting.{name_of}
-use Rattle.asked_service.specs.unit_inputs.Settled.{AreSettled}
-use Rattle.asked_service.specs.unit_launch.Launching.{ComesTo}
-use Rattle.asked_service.specs.unit_launch.OtherPrograms.{AreOthers, HasRoomByBounds}
-use Rattle.asked_service.specs.declared.unit_launch.launching.UnitLaunch.{UnitLaunch}
-use Rattle.asked_service.specs.declared.unit_launch.launching.UnitLaunch.TheVariants.{Launched, Refused}
-use Rattle.asked_service.specs.plan_command.Planned.{IsPlan}
+use Rattle.asked_service.specs.launcher.declared.error.LaunchError.{LaunchError}
+use Rattle.asked_service.specs.launcher.declared.launched.Launched.{Launched as Service}
+use Rattle.asked_service.specs.launching.Starting.{StartsAs}
+use Rattle.asked_service.specs.launching.OtherPrograms.{AreOthers, HasRoomByBounds}
 use Rattle.replay_command.specs.Prepared.{replay_refusals}
 use Rattle.asked_service.specs.Scripts.{script_in}
 use Rattle.replay_command.specs.Texts.{status_behind, replay_text}
@@ -32,12 +24,12 @@ use Rattle.replay_command.specs.Texts.{status_behind, replay_text}
 -- are the same up to the first call of seccomp(2) that the kernel answers with ENOMEM under only one of the two lists of
 -- programs. The kernel gives that answer whenever the programs that the service pushed itself pass the limit. It never gives it
 -- if they do not pass it together with the most that the launch's programs may take.
-abbrev pub RepliesAlike : calls.Table → Site → Settings → List MountStep → List Call → UnitLaunch → Type 0
-RepliesAlike table site settings plan script (Launched service) =
-    (programs : List (List ℕ)) (codes : List (List Insn)) → AreOthers settings programs codes
-    → ((other : World) × (launch_with table site settings plan programs ≡ ends.Launched other service.steps) × SameReplies service.world
-    other script) × HasRoomByBounds settings codes
-RepliesAlike table site settings plan script (Refused refusal) = Unit {0}
+abbrev pub RepliesAlike : (inputs : Inputs) → List Call → (launch : Result Service LaunchError) → StartsAs inputs launch → Type 0
+RepliesAlike inputs script (Ok service) starts =
+    (programs : List (List ℕ)) (codes : List (List Insn)) → AreOthers starts.settings programs codes
+    → ((other : World) × (launch_with inputs.calls inputs.site starts.settings starts.plan programs ≡ ends.Launched other service.steps)
+    × SameReplies service.world other script) × HasRoomByBounds starts.settings codes
+RepliesAlike inputs script (Err error) starts = Unit {0}
 
 -- the replay of a script. By the inputs of the unit, its settings and the plan of its mounts the unit is launched. Then the script, as
 -- the table of calls reads it, is run from the launched world on, and each call is printed with its reply
@@ -46,13 +38,9 @@ pub record PrintsReplay (files : Files) (unit path : List ℕ) (status : ExitSta
   pub inputs_are : inputs_of files unit ≡ Some inputs
   pub script : List Call
   pub script_is : script_in files path inputs.calls ≡ Ok script
-  pub settings : Settings
-  pub are_settings : AreSettled inputs settings
-  pub plan : List MountStep
-  pub is_plan : IsPlan (host_of inputs.site) (unit_mentions inputs.unit inputs.site) plan
-  pub launch : UnitLaunch
-  pub comes_to : ComesTo inputs.calls inputs.site settings plan launch
-  pub replies_alike : RepliesAlike inputs.calls inputs.site settings plan script launch
+  pub launch : Result Service LaunchError
+  pub starts : StartsAs inputs launch
+  pub replies_alike : RepliesAlike inputs script launch starts
   pub is_its_text : text ≡ replay_text inputs.calls script launch
   pub is_its_status : status ≡ status_behind launch
 

@@ -1,10 +1,12 @@
 -- A started replay, and how a run continues after the preparation.
-use Rattle.std.specs.Prelude.{◌≡◌, ◌⊎◌, ℕ, List}
-use Rattle.asked_service.specs.unit_inputs.command_answers.Printing.{IsUntouched, Output, PrintsText}
+use Rattle.std.specs.Prelude.{◌≡◌, ℕ, IsErrOf, List, Result}
+use Rattle.asked_service.specs.unit_inputs.command_answers.CommandErrors.{Prepares}
+use Rattle.asked_service.specs.unit_inputs.command_answers.Printing.{Finishes, Output}
+use Rattle.asked_service.specs.unit_inputs.declared.command_answers.error.CommandError.{CommandError}
+use Rattle.asked_service.specs.unit_inputs.declared.command_answers.error.CommandError.TheVariants as stop
 use Rattle.asked_service.specs.unit_inputs.declared.command_answers.exit_status.ExitStatus.{ExitStatus}
-use Rattle.asked_service.specs.unit_inputs.declared.command_answers.exit_status.ExitStatus.TheVariants.{OutOfMemory}
-use Rattle.asked_service.specs.unit_launch.Launching.{ComesTo}
-use Rattle.replay_command.specs.Prepared.{inputs_in}
+use Rattle.asked_service.specs.launching.Settled.{StartsBy, inputs_in}
+use Rattle.asked_service.specs.launching.Starting.{start_refusals}
 use Rattle.replay_command.specs.Texts.{status_behind, replay_text}
 use Rattle.replay_command.specs.declared.preparing.Prepared.{Prepared}
 use Rattle.replay_command.specs.declared.ready.Replay.{Replay}
@@ -18,16 +20,13 @@ status_of replay = status_behind replay.launch
 
 -- the launch of what is prepared, with its script and its table of calls
 pub record IsStarted (prepared : Prepared) (replay : Replay) : Type 0 where
-  pub comes_to : ComesTo (inputs_in prepared).calls (inputs_in prepared).site prepared.unit.settings.value prepared.plan replay.launch
+  pub starts : StartsBy prepared.unit replay.launch
   pub script : replay.script.now ≡ prepared.script
-  pub calls : replay.calls.now ≡ (inputs_in prepared).calls
+  pub calls : replay.calls.now ≡ (inputs_in prepared.unit).calls
 
--- its replay is printed
-pub record PrintsStarted (prepared : Prepared) (ended : ExitStatus) (output : Output) : Type 0 where
-  pub replay : Replay
-  pub started : IsStarted prepared replay
-  pub prints : PrintsText (status_of replay) (text_of replay) ended output
-
--- or memory ran out, and nothing was printed
-abbrev pub FinishesStarted : Prepared → ExitStatus → Output → Type 0
-FinishesStarted prepared ended output = PrintsStarted prepared ended output ⊎ ((ended ≡ OutOfMemory) × IsUntouched output)
+-- its replay is printed, or the line of the path that is refused; or memory ran out, and nothing was printed
+pub record FinishesStarted (unit : List ℕ) (prepared : Prepared) (ended : ExitStatus) (output : Output) : Type 0 where
+  pub result : Result Replay CommandError
+  pub starts : Prepares (IsStarted prepared) (start_refusals unit (inputs_in prepared.unit)) result
+  pub reads_nothing : IsErrOf result stop.ReadFault → ⊥
+  pub finishes : Finishes status_of text_of result ended output

@@ -1,5 +1,5 @@
 -- The text of a replay, and how a run ends after it.
-use Rattle.std.specs.Prelude.{ℕ, List, [], ◌∷◌, ◌++◌, length, codes}
+use Rattle.std.specs.Prelude.{ℕ, List, [], ◌∷◌, ◌++◌, length, codes, Result, Ok, Err}
 use Rattle.std.specs.Fmt.{decimal}
 use Rattle.asked_service.specs.call_table.Table.{Table}
 use Rattle.asked_service.specs.unit_inputs.declared.command_answers.exit_status.ExitStatus.{ExitStatus}
@@ -8,10 +8,9 @@ use Rattle.asked_service.specs.kernel_model.declared.kernel_calls.call.Call.{Cal
 use Rattle.asked_service.specs.launcher.declared.launched.Launched.{Launched as Service}
 use Rattle.replay_command.specs.Lines.{run_text}
 use Rattle.asked_service.specs.report_text.Launches.{launched_line}
-use Rattle.asked_service.specs.unit_launch.Refusals.{refusal_line}
-use Rattle.asked_service.specs.unit_launch.Told.{told_of}
-use Rattle.asked_service.specs.declared.unit_launch.launching.UnitLaunch.{UnitLaunch}
-use Rattle.asked_service.specs.declared.unit_launch.launching.UnitLaunch.TheVariants.{Launched, Refused}
+use Rattle.asked_service.specs.launching.Refusals.{launch_line}
+use Rattle.asked_service.specs.launching.Told.{told_of}
+use Rattle.asked_service.specs.launcher.declared.error.LaunchError.{LaunchError}
 
 -- how many calls there are
 abbrev pub count_line : ℕ → List ℕ
@@ -23,10 +22,10 @@ service_text table script service =
     launched_line (told_of service.world service.steps) ++ (run_text table service.world script ++ count_line (length script))
 
 -- or the line of a launch that is refused
-abbrev pub replay_text : Table → List Call → UnitLaunch → List ℕ
-replay_text table script (Launched service) = service_text table script service
-replay_text table script (Refused refusal) = refusal_line refusal
+abbrev pub replay_text : Table → List Call → Result Service LaunchError → List ℕ
+replay_text table script (Ok service) = service_text table script service
+replay_text table script (Err error) = launch_line error
 
-abbrev pub status_behind : UnitLaunch → ExitStatus
-status_behind (Launched service) = Done
-status_behind (Refused refusal) = LaunchRefused
+abbrev pub status_behind : Result Service LaunchError → ExitStatus
+status_behind (Ok service) = Done
+status_behind (Err error) = LaunchRefused

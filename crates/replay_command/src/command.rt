@@ -16,15 +16,17 @@ use asked_service::{ExitStatus, finish, finish_error};
 use host_io::{Shelf, Sink};
 use std::alloc::Global;
 
-// Launches what is prepared and prints its replay.
-fn answer_prepared<K: Sink>(alloc: Global, prepared: &Prepared, out: &mut K) -> ExitStatus
+// Launches what is prepared and prints its replay, or the line of the path that is refused.
+fn answer_prepared<K: Sink>(
+    alloc: Global,
+    unit: &str,
+    prepared: &Prepared,
+    out: &mut K,
+) -> ExitStatus
     requires can_be_started { CanBeStarted prepared.now }
-    ensures finishes { FinishesStarted prepared.now result (output_of K.faults K.taken K.puts out.old out.new) }
+    ensures finishes { FinishesStarted unit.now prepared.now result (output_of K.faults K.taken K.puts out.old out.new) }
 {
-    match start(alloc, prepared) {
-        Ok(replay) => finish(alloc, Ok(replay), out),
-        Err(_) => ExitStatus::OutOfMemory,
-    }
+    finish(alloc, start(alloc, unit, prepared), out)
 }
 
 /// Runs `replay` for the name of a unit and the path of a script. It reads the unit, calls.txt, site.toml and the
@@ -44,7 +46,7 @@ pub fn answer<S: Shelf, K: Sink>(
     ensures map_stays { S.told shelf.new ≡ S.told shelf.old }
 {
     match prepare(alloc, shelf, unit, script) {
-        Ok(prepared) => answer_prepared(alloc, &prepared, out),
+        Ok(prepared) => answer_prepared(alloc, unit, &prepared, out),
         Err(stop) => finish_error(stop, out),
     }
 }

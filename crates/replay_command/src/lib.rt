@@ -4,8 +4,8 @@
 //! Then the calls of the script are made in its world, and the line of each is printed as it is made. A refused call
 //! is answered with its errno, and the next is made.
 //!
-//! The crate uses `unit_launch` for the launch, whose world makes each call by the kernel's step, `script_text` for
-//! scripts and printed calls, and `plan_command` for the plan.
+//! The crate uses `asked_service` for the launch, whose world makes each call by the kernel's step, and `script_text` for
+//! scripts and printed calls.
 //!
 //! `answer(alloc, &mut shelf, "web.service", "calls.script", &mut out)` runs the command, and says how it ended.
 #![tactic(auto)]

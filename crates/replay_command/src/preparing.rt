@@ -5,11 +5,10 @@ ghost use Rattle.asked_service.specs.unit_inputs.command_answers.CommandErrors.{
 ghost use Rattle.asked_service.specs.kernel_model.kernel_calls.Calls.{IsCall};
 ghost use Rattle.asked_service.specs.unit_inputs.Asking.{AsksInOrder, asks_with_file};
 ghost use Rattle.asked_service.specs.unit_inputs.ReadsFor.{ReadsFor};
-ghost use Rattle.replay_command.specs.Prepared.{CanBeStarted, IsPrepared, replay_refusals};
+ghost use Rattle.replay_command.specs.Prepared.{CanBeStarted, IsPrepared, settled_refusals};
 
 use asked_service::{
-    Call, CommandError, MountSteps, Script, SettledUnit, fits, plan_mounts, read_inputs,
-    read_script, settle,
+    Call, CommandError, Script, SettledUnit, fits, read_inputs, read_script, settle,
 };
 use host_io::Shelf;
 use std::alloc::Global;
@@ -21,8 +20,6 @@ pub struct Prepared {
     pub unit: SettledUnit,
     /// The calls of the script.
     pub script: Script,
-    /// The plan of the unit's mounts.
-    pub plan: MountSteps,
 }
 
 // What holds of each call is said by a call of `fits`, which changes nothing.
@@ -34,15 +31,14 @@ fn calls_fit(script: &[Call])
     }
 }
 
-/// Reads the unit, calls.txt, site.toml and the script, finds the first refusal of them, of the settings and of the paths that
-/// they mention, and plans the mounts.
+/// Reads the unit, calls.txt, site.toml and the script, and finds the first refusal of them and of the settings.
 pub fn prepare<S: Shelf>(
     alloc: Global,
     shelf: &mut S,
     unit: &str,
     script: &str,
 ) -> Result<Prepared, CommandError>
-    ensures prepares { IfSome (S.told shelf.old) (λ files. Prepares (IsPrepared files unit.now script.now) (replay_refusals files unit.now script.now) result) }
+    ensures prepares { IfSome (S.told shelf.old) (λ files. Prepares (IsPrepared files unit.now script.now) (settled_refusals files unit.now script.now) result) }
     ensures can_be_started { IfOk result CanBeStarted }
     ensures asks_in_order { AsksInOrder S.asks (S.told shelf.old) (λ files. asks_with_file files unit.now script.now) shelf.old shelf.new (course result) }
     ensures reads_for_the_unit { ReadsFor S.told S.faults unit.now shelf.old shelf.new result }
@@ -51,10 +47,8 @@ pub fn prepare<S: Shelf>(
     let made = read_script(alloc, shelf, script, &inputs.calls)?;
     calls_fit(made.list());
     let one = settle(alloc, unit, inputs)?;
-    let plan = plan_mounts(alloc, unit, &one.settings.mentions, &one.inputs.site)?;
     Ok(Prepared {
         unit: one,
         script: made,
-        plan,
     })
 }

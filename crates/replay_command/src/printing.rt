@@ -4,8 +4,10 @@ ghost use Rattle.replay_command.specs.Texts.{replay_text, service_text};
 
 use crate::lines::count_line;
 use crate::replaying::replay;
-use asked_service::unit_launch::{UnitLaunch, refusal_line, told};
-use asked_service::{CallTable, Launched, Script, launched_line, put_line};
+use asked_service::launching::told;
+use asked_service::{
+    CallTable, LaunchError, Launched, Script, launch_line, launched_line, put_line,
+};
 use host_io::{Sink, SinkError};
 use std::alloc::Global;
 
@@ -28,7 +30,7 @@ fn print_service<K: Sink>(
 /// Prints a replay of the script after this launch, or why the launch was refused.
 pub fn print_replay<K: Sink>(
     alloc: Global,
-    launch: &mut UnitLaunch,
+    launch: &mut Result<Launched, LaunchError>,
     script: &Script,
     calls: &CallTable,
     out: &mut K,
@@ -37,7 +39,7 @@ pub fn print_replay<K: Sink>(
     ensures fault_rose { HasWriteCause (K.faults out.old) (K.faults out.new) result }
 {
     match launch {
-        UnitLaunch::Launched(service) => print_service(alloc, service, script, calls, out),
-        UnitLaunch::Refused(refusal) => put_line(out, refusal_line(alloc, refusal)),
+        Ok(service) => print_service(alloc, service, script, calls, out),
+        Err(error) => put_line(out, launch_line(alloc, error)),
     }
 }

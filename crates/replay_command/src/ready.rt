@@ -3,8 +3,7 @@ ghost use Rattle.std.specs.Prelude.{◌≡◌};
 ghost use Rattle.replay_command.specs.Texts.{status_behind};
 
 use crate::printing::print_replay;
-use asked_service::unit_launch::UnitLaunch;
-use asked_service::{CallTable, ExitStatus, Ready, Script};
+use asked_service::{CallTable, ExitStatus, LaunchError, Launched, Ready, Script};
 use host_io::{Sink, SinkError};
 use std::alloc::Global;
 
@@ -12,7 +11,7 @@ use std::alloc::Global;
 #[derive(Drop)]
 pub struct Replay<'a> {
     /// What the launch came to.
-    pub launch: UnitLaunch<'a>,
+    pub launch: Result<Launched<'a>, LaunchError>,
     /// The calls to be made.
     pub script: &'a Script,
     /// The table by which the calls are printed.
@@ -20,12 +19,12 @@ pub struct Replay<'a> {
 }
 
 // How a run ends after this result of the launch.
-fn status_behind(launch: &UnitLaunch) -> ExitStatus
+fn status_behind(launch: &Result<Launched, LaunchError>) -> ExitStatus
     ensures { result ≡ status_behind launch.now }
 {
     match launch {
-        UnitLaunch::Launched(_) => ExitStatus::Done,
-        UnitLaunch::Refused(_) => ExitStatus::LaunchRefused,
+        Ok(_) => ExitStatus::Done,
+        Err(_) => ExitStatus::LaunchRefused,
     }
 }
 

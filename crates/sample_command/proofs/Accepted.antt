@@ -9,10 +9,11 @@ use Rattle.asked_service.specs.exec_settings.Mounts.{unit_mentions}
 use Rattle.asked_service.specs.exec_settings.declared.service.Settings.{Settings}
 use Rattle.asked_service.specs.kernel_model.kern_files.Looking.{flags_by}
 use Rattle.asked_service.specs.kern_mounts.declared.step.MountStep.{MountStep}
-use Rattle.asked_service.specs.launched_units.Launching.{IsNotLaunched, IsRefusedUnit, RefusesPath}
-use Rattle.asked_service.specs.declared.launched_units.refusal.UnitRefusal.{UnitRefusal}
-use Rattle.asked_service.specs.declared.launched_units.refusal.UnitRefusal.TheVariants.{Settings as InSettings, Plan, Launch}
-use Rattle.asked_service.specs.declared.launched_units.refusal.UnitRefusal.TheVariants.{Memory}
+use Rattle.asked_service.specs.launcher.declared.error.LaunchError.{LaunchError}
+use Rattle.asked_service.specs.launcher.declared.error.LaunchError.TheVariants as error
+use Rattle.asked_service.specs.launching.Launched.{IsNotLaunched, IsRefused, IsRefusedUnit, RefusesPath}
+use Rattle.asked_service.specs.declared.launching.refusal.Refusal.TheVariants.{Settings as InSettings, Plan, Launch}
+use Rattle.asked_service.specs.declared.launching.refusal.Refusal.TheVariants.{Memory}
 use Rattle.asked_service.specs.mount_plan.Host.{host_of}
 use Rattle.asked_service.specs.mount_plan.declared.error.PlanError.{PlanError}
 use Rattle.asked_service.specs.mount_plan.declared.error.PlanError.TheVariants as plan
@@ -21,9 +22,6 @@ use Rattle.sample_inputs.specs.Facts.{HasSampleRows, SaysSample, plain_exe, prog
 use Rattle.sample_inputs.specs.sample_launch.Planned.{FindsItsProgram, PathsAreNotRefused, ProgramsAreFound}
 use Rattle.sample_inputs.specs.sample_launch.Settled.{AreSampleSettings, SettingsAreNotRefused, SettingsAreTheSamples}
 use Rattle.asked_service.specs.site_table.Table.{Site}
-use Rattle.asked_service.specs.unit_launch.Launching.{IsRefused}
-use Rattle.asked_service.specs.declared.unit_launch.refusal.LaunchRefusal.{LaunchRefusal}
-use Rattle.asked_service.specs.declared.unit_launch.refusal.LaunchRefusal.TheVariants as refusal
 use Rattle.sample_command.specs.Accepted as sample
 
 are_plain : (n : ℕ) (settings : Settings) → AreSampleSettings n settings → ArePlain settings
@@ -52,10 +50,11 @@ shows site steps found = record {
 
 -- what is never refused has no refusal
 never : (table : calls.Table) (site : Site) (settings : Settings) (steps : List MountStep) → IsNeverRefused table site settings steps
-    → (why : LaunchRefusal) → IsRefused table site settings steps why → ⊥
-never table site settings steps n (refusal.Privileged path) is = n.not_privileged path is
-never table site settings steps n (refusal.Refused step errno) is = n.not_refused step errno is
-never table site settings steps n (refusal.Killed step) is = n.not_killed step is
+    → (why : LaunchError) → IsRefused table site settings steps why → ⊥
+never table site settings steps n (error.PrivilegedProgram path) is = n.not_privileged path is
+never table site settings steps n (error.Refused step errno) is = n.not_refused step errno is
+never table site settings steps n (error.Killed step) is = n.not_killed step is
+never table site settings steps n error.Memory is = is
 
 module _ (n : ℕ) (unit : Resolved) (table : calls.Table) (site : Site) (says : SaysSample n unit) (has_rows : HasSampleRows site) where
   no_path : PathsAreNotRefused → (error : PlanError) → RefusesPath (host_of site) (unit_mentions unit site) error → ⊥
@@ -63,14 +62,14 @@ module _ (n : ℕ) (unit : Resolved) (table : calls.Table) (site : Site) (says :
   no_path law (plan.Kind path) is = (let both = sym (law n unit site says has_rows).1 ∙ is in cc)
   no_path law plan.Memory is = is
 
-  no_launch : IsWhole table → SettingsAreTheSamples → ProgramsAreFound → PlainSettingsAreLaunched → (why : LaunchRefusal)
+  no_launch : IsWhole table → SettingsAreTheSamples → ProgramsAreFound → PlainSettingsAreLaunched → (why : LaunchError)
       → IsRefusedUnit unit table site why → ⊥
   no_launch whole settled found law why is =
       let own = settled n unit table site is.settings says has_rows is.are_settings in
       never table site is.settings is.plan
-      (law table site is.settings is.plan whole is.fits.can_be_mounted (are_plain n is.settings own)
+      (law table site is.settings is.plan whole is.is_plan.can_be_mounted (are_plain n is.settings own)
       (subst (ShowsProgram site is.plan) (sym own.launches)
-      (shows site is.plan (found n unit site is.plan says has_rows is.is_plan))))
+      (shows site is.plan (found n unit site is.plan says has_rows is.is_plan.is_planned))))
       why is.refused
 
   pub never_refused : IsWhole table → SettingsAreNotRefused → SettingsAreTheSamples → PathsAreNotRefused → ProgramsAreFound

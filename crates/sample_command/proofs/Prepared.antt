@@ -7,7 +7,7 @@ use Rattle.asked_service.specs.unit_inputs.command_answers.Laws.{GoTogether}
 use Rattle.asked_service.specs.dropin_merge.declared.resolved.Resolved.{Resolved}
 use Rattle.asked_service.specs.Answers.{AreAnswers}
 use Rattle.asked_service.specs.ByRule.{AnswersAreTrue, answers_of}
-use Rattle.asked_service.specs.launched_units.Launching.{IsLaunchedUnit}
+use Rattle.asked_service.specs.launching.Launched.{IsLaunchedUnit}
 use Rattle.asked_service.specs.launcher.declared.launched.Launched.{Launched as Service}
 use Rattle.asked_service.specs.site_table.Table.{Site}
 use Rattle.sample_inputs.specs.Made.{IsSample}

@@ -2,10 +2,10 @@
 use Rattle.std.specs.Prelude.{◌≢◌}
 use Rattle.asked_service.specs.call_table.Table as calls
 use Rattle.asked_service.specs.dropin_merge.declared.resolved.Resolved.{Resolved}
-use Rattle.asked_service.specs.launched_units.Launching.{IsNotLaunched}
-use Rattle.asked_service.specs.declared.launched_units.refusal.UnitRefusal.{UnitRefusal}
-use Rattle.asked_service.specs.declared.launched_units.refusal.UnitRefusal.TheVariants.{Memory}
+use Rattle.asked_service.specs.launching.Launched.{IsNotLaunched}
+use Rattle.asked_service.specs.declared.launching.refusal.Refusal.{Refusal}
+use Rattle.asked_service.specs.declared.launching.refusal.Refusal.TheVariants.{Memory}
 use Rattle.asked_service.specs.site_table.Table.{Site}
 
 abbrev pub IsNeverRefused : Resolved → calls.Table → Site → Type 0
-IsNeverRefused unit table site = (refusal : UnitRefusal) → refusal ≢ Memory → IsNotLaunched unit table site refusal → ⊥
+IsNeverRefused unit table site = (refusal : Refusal) → refusal ≢ Memory → IsNotLaunched unit table site refusal → ⊥

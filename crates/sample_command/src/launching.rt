@@ -1,9 +1,9 @@
 //! The launch of a made unit.
 ghost use Rattle.std.specs.Prelude.{IfOk};
-ghost use Rattle.asked_service.specs.launched_units.Launching.{IsLaunchedUnit};
+ghost use Rattle.asked_service.specs.launching.Launched.{IsLaunchedUnit};
 ghost use Rattle.sample_command.specs.Accepted.{IsNeverRefused};
 
-use asked_service::{Launched, UnitRefusal, launch_whole};
+use asked_service::{Launched, Refusal, launch_unit};
 use sample_inputs::SampleInputs;
 use std::alloc::{AllocError, Global};
 
@@ -12,9 +12,9 @@ pub fn launch_sample(alloc: Global, inputs: &SampleInputs) -> Result<Launched<'_
     requires never_refused { IsNeverRefused inputs.now.unit.value inputs.now.calls.value inputs.now.site.value }
     ensures launches { IfOk result (IsLaunchedUnit inputs.now.unit.value inputs.now.calls.value inputs.now.site.value) }
 {
-    match launch_whole(alloc, &inputs.unit, &inputs.calls, &inputs.site) {
+    match launch_unit(alloc, &inputs.unit, &inputs.calls, &inputs.site) {
         Ok(service) => Ok(service),
-        Err(UnitRefusal::Memory) => Err(AllocError),
+        Err(Refusal::Memory) => Err(AllocError),
         Err(_) => unreachable!(),
     }
 }

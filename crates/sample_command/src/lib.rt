@@ -2,7 +2,7 @@
 //!
 //! The inputs are made from a number (`sample_inputs`). They are settled, planned and launched like the inputs of any unit.
 //! Every question is asked of the launched service, and the answers are counted. No made input is refused (`sample_launch`).
-//! The crate uses `launched_units` for the launch, and `asked_service` for the questions.
+//! The crate uses `asked_service` for the launch and the questions.
 //!
 //! `prepare(alloc, 7)?` has the counts, and `print` writes their lines.
 #![tactic(auto)]

@@ -18,15 +18,14 @@ use Rattle.asked_service.specs.kernel_laws.Launched.{Launch}
 use Rattle.asked_service.specs.kernel_laws.Questions.{questions}
 use Rattle.asked_service.specs.kernel_model.World.{World}
 use Rattle.asked_service.specs.kernel_ways.Laws.{QuestionsAreExact}
-use Rattle.asked_service.specs.launched_units.Launching.{IsLaunchedUnit, IsNotLaunched}
-use Rattle.asked_service.specs.declared.launched_units.refusal.UnitRefusal.{UnitRefusal}
-use Rattle.asked_service.specs.declared.launched_units.refusal.UnitRefusal.TheVariants as refusal
+use Rattle.asked_service.specs.launching.Launched.{IsLaunchedUnit, IsNotLaunched}
+use Rattle.asked_service.specs.declared.launching.refusal.Refusal.{Refusal}
+use Rattle.asked_service.specs.declared.launching.refusal.Refusal.TheVariants as refusal
 use Rattle.asked_service.specs.launcher.declared.launched.Launched.{Launched as Service}
 use Rattle.asked_service.specs.kernel_laws.declared.question_types.question.Question.{Question}
 use Rattle.asked_service.specs.site_table.Table.{Site}
 use Rattle.tighten_command.specs.tightening.Items.{has, in_order, tightened}
 use Rattle.tighten_command.specs.tightening.Searching.{IsHeld, IsMost, IsOver, IsServing, Lacks, Pleasing, Tells}
-use Rattle.tighten_command.specs.tightening.Errors.{error_of}
 use Rattle.tighten_command.specs.tightening.Tight.{AreCounts, Denies, IsTight, RefusesWish, Tightens}
 use Rattle.tighten_command.specs.tightening.Tried.{Displeases, IsFirst, IsGranted, IsKept, IsShut, Pleases, Refuses, Serves, Stops, Tried}
 use Rattle.tighten_command.specs.tightening.Tried.{denies, displeases, not_launched, refuses}
@@ -127,7 +126,7 @@ module _ (tried : Tried) where
         })
 
     -- it has none
-    pub tells_refusal : (error : UnitRefusal) (result : Result (Option Bounded) AllocError)
+    pub tells_refusal : (error : Refusal) (result : Result (Option Bounded) AllocError)
         → IsNotLaunched unit tried.table tried.site error
         → IfOk result (λ found. (found ≡ None) × (error ≢ refusal.Memory)) → IfOk result (Tells tried set)
     tells_refusal error (Err none) refused told = tt
@@ -214,13 +213,6 @@ module _ (tried : Tried) where
   pub own_service : (service own : Service) → own ≡ service → IsLaunchedUnit tried.unit tried.table tried.site service
       → IsLaunchedUnit tried.unit tried.table tried.site own
   own_service service own is launched = subst (IsLaunchedUnit tried.unit tried.table tried.site) (sym is) launched
-
-  -- the unit itself is not launched
-  pub unlaunched : (error : UnitRefusal) → IsNotLaunched tried.unit tried.table tried.site error → Tightens tried (Err (error_of error))
-  unlaunched (refusal.Settings own) not_it = not_it
-  unlaunched (refusal.Plan own) not_it = not_it
-  unlaunched (refusal.Launch own) not_it = not_it
-  unlaunched refusal.Memory not_it = tt
 
   -- its own service lacks something
   pub denies_one : (service : Service) → IsLaunchedUnit tried.unit tried.table tried.site service → (number : ℕ)

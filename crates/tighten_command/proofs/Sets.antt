@@ -11,7 +11,7 @@ use Rattle.std.proofs.lemmas.List.FromFn.{filter_of_map_range_with_len_more, get
 use Rattle.std.proofs.lemmas.List.Elements.{All-filter}
 use Rattle.std.proofs.lemmas.List.Kept.{IsStrictlyIncreasing-filter}
 use Rattle.asked_service.specs.dropin_merge.declared.resolved.Resolved.{Resolved}
-use Rattle.asked_service.specs.launched_units.Longer.{with_file}
+use Rattle.asked_service.specs.launching.Longer.{with_file}
 use Rattle.tighten_command.specs.tightening.Items.{drop_in_text, has, in_order, tightened, with_items}
 use Rattle.tighten_command.specs.tightening.Searching.{outside}
 

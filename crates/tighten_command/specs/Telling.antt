@@ -5,17 +5,17 @@ use Rattle.asked_service.specs.unit_inputs.declared.command_answers.exit_status.
 use Rattle.asked_service.specs.unit_inputs.declared.command_answers.error.CommandError.{CommandError}
 use Rattle.asked_service.specs.unit_inputs.declared.command_answers.error.CommandError.TheVariants as stop
 use Rattle.asked_service.specs.exec_settings.declared.errors.SettingsError.{SettingsError}
-use Rattle.asked_service.specs.launched_units.Launching.{IsNotLaunched}
-use Rattle.asked_service.specs.declared.launched_units.refusal.UnitRefusal.TheVariants as refusal
+use Rattle.asked_service.specs.launching.Launched.{IsNotLaunched}
+use Rattle.asked_service.specs.declared.launching.refusal.Refusal.TheVariants as refusal
 use Rattle.asked_service.specs.mount_plan.declared.error.PlanError.{PlanError}
 use Rattle.asked_service.specs.plan_command.Refusals.{error_line}
 use Rattle.tighten_command.specs.tightening.Tight.{Denies, IsTight, RefusesWish}
 use Rattle.tighten_command.specs.tightening.Tried.{Tried}
 use Rattle.tighten_command.specs.declared.tightening.tight.Tight.{Tight}
 use Rattle.tighten_command.specs.declared.tightening.tight.TightenError.{TightenError}
-use Rattle.tighten_command.specs.declared.tightening.tight.TightenError.TheVariants.{Settings, Plan, Launch, Keep, Wish, Memory}
-use Rattle.asked_service.specs.unit_launch.Refusals.{refusal_line}
-use Rattle.asked_service.specs.declared.unit_launch.refusal.LaunchRefusal.{LaunchRefusal}
+use Rattle.tighten_command.specs.declared.tightening.tight.TightenError.TheVariants.{NotLaunched, Keep, Wish}
+use Rattle.asked_service.specs.launching.Refusals.{launch_line}
+use Rattle.asked_service.specs.launcher.declared.error.LaunchError.{LaunchError}
 use Rattle.asked_service.specs.unit_inputs.SettingsRefusals.{settings_line}
 use Rattle.tighten_command.specs.Lines.{keep_line, tight_text, wish_line}
 use Rattle.asked_service.specs.unit_inputs.declared.command_answers.ready_text.ReadyText.{ReadyText}
@@ -29,19 +29,19 @@ pub data TellsTight (unit : List ℕ) (tried : Tried) : ExitStatus → List ℕ 
       → TellsTight unit tried Refused (settings_line unit error)
   no_plan : (error : PlanError) → IsNotLaunched tried.unit tried.table tried.site (refusal.Plan error)
       → TellsTight unit tried Refused (error_line unit error)
-  no_launch : (refused : LaunchRefusal) → IsNotLaunched tried.unit tried.table tried.site (refusal.Launch refused)
-      → TellsTight unit tried LaunchRefused (refusal_line refused)
+  no_launch : (refused : LaunchError) → IsNotLaunched tried.unit tried.table tried.site (refusal.Launch refused)
+      → TellsTight unit tried LaunchRefused (launch_line refused)
   denies : (number : ℕ) → Denies tried number → TellsTight unit tried Refused (keep_line unit number)
   refuses_wish : (number : ℕ) → RefusesWish tried number → TellsTight unit tried Refused (wish_line unit number)
 
 -- the text of the reason why nothing is added
 abbrev pub TellsError : List ℕ → TightenError → ExitStatus → List ℕ → Type 0
-TellsError unit (Settings error) status text = (status ≡ Refused) × (text ≡ settings_line unit error)
-TellsError unit (Plan error) status text = (status ≡ Refused) × (text ≡ error_line unit error)
-TellsError unit (Launch refused) status text = (status ≡ LaunchRefused) × (text ≡ refusal_line refused)
+TellsError unit (NotLaunched (refusal.Settings error)) status text = (status ≡ Refused) × (text ≡ settings_line unit error)
+TellsError unit (NotLaunched (refusal.Plan error)) status text = (status ≡ Refused) × (text ≡ error_line unit error)
+TellsError unit (NotLaunched (refusal.Launch refused)) status text = (status ≡ LaunchRefused) × (text ≡ launch_line refused)
+TellsError unit (NotLaunched refusal.Memory) status text = ⊥
 TellsError unit (Keep number) status text = (status ≡ Refused) × (text ≡ keep_line unit number)
 TellsError unit (Wish number) status text = (status ≡ Refused) × (text ≡ wish_line unit number)
-TellsError unit Memory status text = ⊥
 
 -- what is ready, or the line of the refusal, is such, unless memory ran out
 abbrev pub IsTold : (ExitStatus → List ℕ → Type 0) → Result ReadyText CommandError → Type 0

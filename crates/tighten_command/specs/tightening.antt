@@ -2,6 +2,5 @@ pub mod Items
 pub mod Open
 pub mod Wishes
 pub mod Tried
-pub mod Errors
 pub mod Tight
 pub mod Searching

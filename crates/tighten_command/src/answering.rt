@@ -5,15 +5,13 @@ ghost use Rattle.asked_service.specs.kernel_laws.Questions.{questions};
 ghost use Rattle.tighten_command.specs.tightening.Tried.{tried_with};
 ghost use Rattle.tighten_command.specs.Telling.{IsTold, TellsError, TellsTight};
 ghost use Rattle.tighten_command.specs.Lines.{tight_text};
-ghost use Rattle.asked_service.specs.unit_launch.Refusals.{refusal_line};
-ghost use Rattle.asked_service.specs.unit_inputs.declared.command_answers.exit_status.ExitStatus.TheVariants.{Done, LaunchRefused};
+ghost use Rattle.asked_service.specs.unit_inputs.declared.command_answers.exit_status.ExitStatus.TheVariants.{Done};
 
 use crate::lines::{keep_line, tight_text, wish_line};
 use crate::tightening::{StoredWish, Tight, TightenError, Wished, tighten};
-use asked_service::unit_launch::{LaunchRefusal, refusal_line};
 use asked_service::{
-    CallTable, CommandError, ExitStatus, Question, ReadyText, Resolved, SiteTable, plan_line,
-    refuse, settings_line,
+    CallTable, CommandError, ExitStatus, Question, ReadyText, Resolved, SiteTable, refuse,
+    tell_refusal,
 };
 use std::alloc::Global;
 
@@ -28,27 +26,14 @@ fn tell_tight(alloc: Global, tight: &Tight) -> Result<ReadyText, CommandError>
     })
 }
 
-// The line of a launch that is refused.
-fn tell_refused(alloc: Global, refusal: &LaunchRefusal) -> Result<ReadyText, CommandError>
-    ensures { IsTold (λ status text. (status ≡ LaunchRefused) × (text ≡ refusal_line refusal.now)) result }
-{
-    Ok(ReadyText {
-        text: refusal_line(alloc, refusal)?,
-        status: ExitStatus::LaunchRefused,
-    })
-}
-
 // The text of the reason why nothing can be added.
 fn tell_error(alloc: Global, name: &str, error: TightenError) -> Result<ReadyText, CommandError>
     ensures { IsTold (TellsError name.now error) result }
 {
     match error {
-        TightenError::Settings(error) => Err(refuse(settings_line(alloc, name, &error))),
-        TightenError::Plan(error) => Err(refuse(plan_line(alloc, name, &error))),
-        TightenError::Launch(refusal) => tell_refused(alloc, &refusal),
+        TightenError::NotLaunched(refusal) => tell_refusal(alloc, name, refusal),
         TightenError::Keep(number) => Err(refuse(keep_line(alloc, name, number))),
         TightenError::Wish(number) => Err(refuse(wish_line(alloc, name, number))),
-        TightenError::Memory => Err(CommandError::Memory),
     }
 }
 

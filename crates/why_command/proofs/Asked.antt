@@ -1,13 +1,10 @@
 -- What one verdict tells of a unit without some of its lines.
-use Rattle.std.proofs.Common.{◌≡◌, ℕ, Bool, true, false, List, Some, Result, Ok, Err, Vec, Global, sym, ap, subst}
+use Rattle.std.proofs.Common.{◌≡◌, ◌≢◌, ℕ, Bool, true, false, List, Some, Result, Ok, Err, Vec, Global, sym, ap, subst}
 use Rattle.std.specs.Prelude.{Contains, IfOk}
 use Rattle.std.specs.declared.alloc.AllocError.{AllocError}
 use Rattle.asked_service.proofs.Exact.{all_at}
 use Rattle.asked_service.specs.Asked.{IsBounded, is_open_by}
 use Rattle.asked_service.specs.declared.bounding.Bounded.{Bounded}
-use Rattle.asked_service.specs.unit_inputs.command_answers.CommandErrors.{Prepares}
-use Rattle.asked_service.specs.unit_inputs.declared.command_answers.error.CommandError.{CommandError}
-use Rattle.asked_service.specs.unit_inputs.declared.command_answers.error.CommandError.TheVariants as stop
 use Rattle.asked_service.specs.call_table.Table as calls
 use Rattle.asked_service.specs.dropin_merge.declared.resolved.Resolved.{Resolved}
 use Rattle.asked_service.specs.kernel_laws.Bound.{is_open}
@@ -18,18 +15,17 @@ use Rattle.asked_service.specs.kernel_ways.Laws.{IsExact, IsServedWorld, Questio
 use Rattle.asked_service.specs.launcher.declared.launched.Launched.{Launched as Service}
 use Rattle.asked_service.specs.kernel_laws.declared.question_types.question.Question.{Question}
 use Rattle.asked_service.specs.site_table.Table.{Site}
-use Rattle.asked_service.specs.started_units.Starting.{StartsAs, first_start, given, start_refusals}
+use Rattle.asked_service.specs.launching.Starting.{StartsAs, given}
 use Rattle.asked_service.specs.unit_inputs.Inputs.{Inputs}
-use Rattle.asked_service.specs.declared.unit_launch.launching.UnitLaunch.{UnitLaunch}
-use Rattle.asked_service.specs.declared.unit_launch.launching.UnitLaunch.TheVariants.{Launched, Refused}
-use Rattle.asked_service.specs.declared.unit_launch.refusal.LaunchRefusal.{LaunchRefusal}
-use Rattle.asked_service.specs.unit_launch.Refusals.{refusal_line}
+use Rattle.asked_service.specs.declared.launching.refusal.Refusal.{Refusal}
+use Rattle.asked_service.specs.declared.launching.refusal.Refusal.TheVariants.{Memory}
+use Rattle.asked_service.specs.launching.Launched as launching
+use Rattle.asked_service.specs.launching.Launched.{IsLaunchedUnit}
+use Rattle.asked_service.specs.launching.Refusals.{refusal_line}
 use Rattle.why_command.specs.deciding_lines.unit_lines.Without.{without}
 use Rattle.asked_service.specs.dropin_merge.declared.unit_values.value.Place.{Place}
 use Rattle.why_command.specs.deciding_lines.Tried.{IsDeniedWithout, IsNotLaunched, IsOpenWithout, IsSaid, TellsOpen, Tried, denied, inputs_without}
-use Rattle.why_command.specs.deciding_lines.Tried.{IsStarted, TellsLaunch, TellsStop, launch_refused, unit_refused}
-use Rattle.why_command.specs.declared.deciding_lines.starting.Started.{Started}
-use Rattle.why_command.specs.declared.deciding_lines.starting.Started.TheVariants as started
+use Rattle.why_command.specs.deciding_lines.Tried.{is_refused}
 
 -- a verdict by the rule says so
 said_exactly : (world : World) (question : Question) (answer : Bool) → IsExact world question
@@ -56,15 +52,15 @@ module _ (service : Service) (bounded : Bounded) (same : bounded.service ≡ ser
       (said exact bounded.service.world bounds.served question listed_of answer is)
 
 -- what starts is served, over the tables
-module _ (inputs : Inputs) (service : Service) (starts : StartsAs inputs (Launched service)) where
+module _ (inputs : Inputs) (service : Service) (starts : StartsAs inputs (Ok service)) where
   pub served : IsServedWorld service.world
-  served = starts.comes_to.is_served
+  served = starts.launched.is_served
 
   pub own_calls : service.world.calls ≡ inputs.calls
-  own_calls = ap (λ (made : Launch). made.calls) starts.comes_to.leaves_one_process.leaves.is
+  own_calls = ap (λ (made : Launch). made.calls) starts.launched.leaves_one_process.leaves.is
 
   pub own_site : service.world.site ≡ inputs.site
-  own_site = ap (λ (made : Launch). made.site) starts.comes_to.leaves_one_process.leaves.is
+  own_site = ap (λ (made : Launch). made.site) starts.launched.leaves_one_process.leaves.is
 
   pub listed : (question : Question) → Contains (asked.questions inputs.calls inputs.site) question
       → Contains (asked.questions service.world.calls service.world.site) question
@@ -77,54 +73,30 @@ module _ (name : List ℕ) (inputs : Inputs) (places : List Place) (less : Resol
   as_without : (P : Inputs → Type 0) → P (given less inputs.calls inputs.site) → P (inputs_without inputs places)
   as_without P holds = subst (λ (own : Resolved). P (given own inputs.calls inputs.site)) is holds
 
-  starts_without : (service : Service) → Prepares (StartsAs (given less inputs.calls inputs.site))
-      (start_refusals name (given less inputs.calls inputs.site)) (Ok (Launched service))
-      → StartsAs (inputs_without inputs places) (Launched service)
-  starts_without service prepared = as_without (λ own. StartsAs own (Launched service)) prepared.1
+  pub starts_without : (service : Service) → IsLaunchedUnit less inputs.calls inputs.site service
+      → StartsAs (inputs_without inputs places) (Ok service)
+  starts_without service launched = as_without (λ own. StartsAs own (Ok service)) launched
 
-  refuses_launch : (refusal : LaunchRefusal) (line : List ℕ) → line ≡ refusal_line refusal
-      → Prepares (StartsAs (given less inputs.calls inputs.site)) (start_refusals name (given less inputs.calls inputs.site))
-      (Ok (Refused refusal)) → IsNotLaunched name (inputs_without inputs places) line
-  refuses_launch refusal line says prepared = subst (IsNotLaunched name (inputs_without inputs places)) (sym says)
-      (launch_refused refusal (as_without (λ own. StartsAs own (Refused refusal)) prepared.1))
-
-  refuses_unit : (line : Vec ℕ Global) → Prepares {T = UnitLaunch} (StartsAs (given less inputs.calls inputs.site))
-      (start_refusals name (given less inputs.calls inputs.site)) (Err (stop.Refused line))
-      → IsNotLaunched name (inputs_without inputs places) line.items
-  refuses_unit line refuses = unit_refused line.items (as_without (λ own. first_start name own ≡ Some line.items) refuses)
-
-  pub starts_as : (launch : UnitLaunch) → Prepares (StartsAs (given less inputs.calls inputs.site))
-      (start_refusals name (given less inputs.calls inputs.site)) (Ok launch) → (result : Result Started AllocError)
-      → IfOk result (TellsLaunch launch) → IfOk result (IsStarted name (inputs_without inputs places))
-  starts_as launch prepared (Err none) told = tt
-  starts_as (Launched service) prepared (Ok made) told =
-      subst (IsStarted name (inputs_without inputs places)) (sym told) (starts_without service prepared)
-  starts_as (Refused refusal) prepared (Ok (started.Launched service)) told = absurd told
-  starts_as (Refused refusal) prepared (Ok (started.Refused line)) told = refuses_launch refusal line.items told prepared
-
-  pub stops_as : (why : CommandError) → Prepares {T = UnitLaunch} (StartsAs (given less inputs.calls inputs.site))
-      (start_refusals name (given less inputs.calls inputs.site)) (Err why) → (result : Result Started AllocError)
-      → IfOk result (TellsStop why) → IfOk result (IsStarted name (inputs_without inputs places))
-  stops_as why refuses (Err none) told = tt
-  stops_as (stop.Refused line) refuses (Ok made) told =
-      subst (IsStarted name (inputs_without inputs places)) (sym told) (refuses_unit line refuses)
-  stops_as stop.ReadFault refuses (Ok made) told = absurd told
-  stops_as stop.Memory refuses (Ok made) told = absurd told
+  pub refused_without : (refusal : Refusal) → refusal ≢ Memory → launching.IsNotLaunched less inputs.calls inputs.site refusal
+      → (line : List ℕ) → line ≡ refusal_line name refusal → IsNotLaunched name (inputs_without inputs places) line
+  refused_without refusal told refused line says =
+      subst (IsNotLaunched name (inputs_without inputs places)) (sym says)
+      (is_refused refusal told (as_without (λ own. launching.IsNotLaunched own.unit own.calls own.site refusal) refused))
 
 -- what is told of a launch without them
 module _ (tried : Tried) (places : List Place) where
-  pub tells_service : (service : Service) → StartsAs (inputs_without tried.inputs places) (Launched service)
+  pub tells_service : (service : Service) → StartsAs (inputs_without tried.inputs places) (Ok service)
       → (result : Result Bool AllocError) → IfOk result (IsSaid service.world tried.question) → IfOk result (TellsOpen tried places)
   tells_service service starts (Ok true) found = record { service = service; starts = starts; shown = found }
   tells_service service starts (Ok false) found = denied (record { service = service; starts = starts; denied = found })
   tells_service service starts (Err none) found = tt
 
-  pub open_as : (service : Service) → StartsAs (inputs_without tried.inputs places) (Launched service) → (answer : Bool) → answer ≡ true
+  pub open_as : (service : Service) → StartsAs (inputs_without tried.inputs places) (Ok service) → (answer : Bool) → answer ≡ true
       → IsSaid service.world tried.question answer → IsOpenWithout tried places
   open_as service starts answer is found =
       record { service = service; starts = starts; shown = subst (IsSaid service.world tried.question) is found }
 
-  pub denied_as : (service : Service) → StartsAs (inputs_without tried.inputs places) (Launched service) → (answer : Bool)
+  pub denied_as : (service : Service) → StartsAs (inputs_without tried.inputs places) (Ok service) → (answer : Bool)
       → answer ≡ false → IsSaid service.world tried.question answer → IsDeniedWithout tried places
   denied_as service starts answer is found =
       record { service = service; starts = starts; denied = subst (IsSaid service.world tried.question) is found }

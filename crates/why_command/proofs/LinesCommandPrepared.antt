@@ -10,11 +10,11 @@ use Rattle.asked_service.specs.unit_inputs.declared.command_answers.exit_status.
 use Rattle.asked_service.specs.unit_inputs.declared.command_answers.error.CommandError.{CommandError}
 use Rattle.asked_service.proofs.OfUnitInputs.FileCommands.{go_together, ready_is_admitted, stop_is_admitted}
 use Rattle.asked_service.proofs.OfUnitInputs.Refusing.{stops_as}
-use Rattle.asked_service.specs.started_units.Starting.{start_refusals}
+use Rattle.asked_service.specs.launching.Starting.{start_refusals}
 use Rattle.asked_service.specs.unit_inputs.Inputs.{Inputs, input_refusals, inputs_of, inputs_view}
 use Rattle.asked_service.specs.unit_inputs.declared.inputs.UnitInputs.{UnitInputs}
-use Rattle.asked_service.specs.declared.unit_launch.launching.UnitLaunch.{UnitLaunch}
-use Rattle.asked_service.specs.declared.unit_launch.launching.UnitLaunch.TheVariants.{Launched, Refused}
+use Rattle.asked_service.specs.launcher.declared.error.LaunchError.{LaunchError}
+use Rattle.asked_service.specs.launcher.declared.launched.Launched.{Launched as Service}
 use Rattle.asked_service.specs.unit_inputs.Settled.{refusals_by}
 use Rattle.asked_service.proofs.OfUnitInputs.Steps.{AreRead, refusals_with}
 use Rattle.asked_service.proofs.OfUnitInputs.Steps as steps
@@ -23,10 +23,10 @@ use Rattle.asked_service.specs.unit_inputs.declared.command_answers.ready_text.R
 use Rattle.why_command.specs.lines_command.Prints.{PrintsLines, TellsLaunch, TellsLines, lines_laws, lines_refusals}
 
 -- each ends as it may
-ends_so : (name : List ℕ) (inputs : Inputs) (launch : UnitLaunch) (status : ExitStatus) (text : List ℕ)
+ends_so : (name : List ℕ) (inputs : Inputs) (launch : Result Service LaunchError) (status : ExitStatus) (text : List ℕ)
     → TellsLaunch name inputs launch status text → (status ≡ Done) ⊎ (status ≡ LaunchRefused)
-ends_so name inputs (Refused refusal) status text tells = inr tells.0
-ends_so name inputs (Launched service) status text tells = inl tells.0
+ends_so name inputs (Err error) status text tells = inr tells.0
+ends_so name inputs (Ok service) status text tells = inl tells.0
 
 module _ (told : Option Files) (unit : List ℕ) where
   -- each ending behind an answer is one

@@ -7,9 +7,8 @@ use Rattle.asked_service.specs.unit_inputs.declared.command_answers.error.Comman
 use Rattle.asked_service.specs.launcher.declared.launched.Launched.{Launched as Service}
 use Rattle.why_command.specs.opening_lines.Opening.{IsAlone}
 use Rattle.why_command.specs.declared.opening_lines.each.LineAlone.{LineAlone}
-use Rattle.asked_service.specs.started_units.Starting.{StartsAs, start_refusals}
+use Rattle.asked_service.specs.launching.Starting.{StartsAs, start_refusals}
 use Rattle.asked_service.specs.unit_inputs.Inputs.{Inputs}
-use Rattle.asked_service.specs.declared.unit_launch.launching.UnitLaunch.{UnitLaunch}
 use Rattle.why_command.specs.deciding_lines.unit_lines.Lines.{lines_of}
 use Rattle.asked_service.specs.unit_inputs.command_answers.ReadyTexts.{IsReadyWith, status_of, text_of}
 use Rattle.asked_service.specs.unit_inputs.declared.command_answers.ready_text.ReadyText.{ReadyText}
@@ -26,18 +25,3 @@ module _ (name : List ℕ) (inputs : Inputs) where
     are_alone = record { one_each = one_each; each_is_so = subst (λ (these : Service). All (λ one. IsAlone name inputs these.world one.line.now.place one.alone) told) same each };
     is_its_text = says;
   }
-
-  -- what is ready is the answer
-  pub answers_launch : (launch : UnitLaunch) → Prepares (StartsAs inputs) (start_refusals name inputs) (Ok launch)
-      → (result : Result ReadyText CommandError) → IsReadyWith (TellsLaunch name inputs launch) result
-      → Prepares (λ made. TellsLines name inputs (status_of made) (text_of made)) (start_refusals name inputs) result
-  answers_launch launch starts (Ok made) ready = (starts.0, record { launch = launch; starts = starts.1; tells = ready })
-  answers_launch launch starts (Err (stop.Refused line)) ready = absurd ready
-  answers_launch launch starts (Err stop.ReadFault) ready = absurd ready
-  answers_launch launch starts (Err stop.Memory) ready = tt
-
-  pub answers_stop : (why : CommandError) → Prepares {T = UnitLaunch} (StartsAs inputs) (start_refusals name inputs) (Err why)
-      → Prepares (λ (made : ReadyText). TellsLines name inputs (status_of made) (text_of made)) (start_refusals name inputs) (Err why)
-  answers_stop (stop.Refused line) is = is
-  answers_stop stop.ReadFault is = tt
-  answers_stop stop.Memory is = tt

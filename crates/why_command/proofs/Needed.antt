@@ -11,8 +11,7 @@ use Rattle.asked_service.specs.dropin_merge.declared.resolved.UnitFile.{UnitFile
 use Rattle.asked_service.specs.dropin_merge.declared.unit_values.value.Place.{Place}
 use Rattle.asked_service.specs.unit_grammar.declared.unit.Assignment.{Assignment}
 use Rattle.asked_service.specs.launcher.declared.launched.Launched.{Launched as Service}
-use Rattle.asked_service.specs.started_units.Starting.{StartsAs, given}
-use Rattle.asked_service.specs.declared.unit_launch.launching.UnitLaunch.TheVariants.{Launched}
+use Rattle.asked_service.specs.launching.Starting.{StartsAs, given}
 use Rattle.why_command.specs.deciding_lines.Deciding.{AreNeededOf, IsLaunchedWith, IsReasonAt, all_go, needed_stay}
 use Rattle.why_command.specs.deciding_lines.Searching.{DeniesWithout}
 use Rattle.why_command.specs.deciding_lines.Tried.{IsNotLaunched, Tried, inputs_without}
@@ -71,9 +70,9 @@ none_go before (place ∷ lines) =
     ∙ none_go (before ++ (place ∷ [])) lines
 
 pub launched_with_all : (tried : Tried) (lines lent : List Place) (service : Service) → lent ≡ lines
-    → StartsAs tried.inputs (Launched service) → IsLaunchedWith tried lines lent service
+    → StartsAs tried.inputs (Ok service) → IsLaunchedWith tried lines lent service
 launched_with_all tried lines lent service lends starts =
-    subst (λ (own : Resolved). StartsAs (given own tried.inputs.calls tried.inputs.site) (Launched service))
+    subst (λ (own : Resolved). StartsAs (given own tried.inputs.calls tried.inputs.site) (Ok service))
     (sym (ap (λ gone. without gone tried.inputs.unit) (ap (λ (kept : List Place). all_but kept lines) lends ∙ none_go [] lines)
     ∙ without_none tried.inputs.unit)) starts
 

@@ -17,11 +17,11 @@ use Rattle.why_command.specs.deciding_lines.Tried.{Tried}
 use Rattle.asked_service.specs.kernel_laws.Questions as asked
 use Rattle.asked_service.specs.kernel_laws.declared.question_types.question.Question.{Question}
 use Rattle.asked_service.specs.site_table.Table.{Site}
-use Rattle.asked_service.specs.started_units.Starting.{start_refusals}
+use Rattle.asked_service.specs.launching.Starting.{start_refusals}
 use Rattle.asked_service.specs.unit_inputs.Inputs.{Inputs, input_refusals, inputs_of, inputs_view}
 use Rattle.asked_service.specs.unit_inputs.declared.inputs.UnitInputs.{UnitInputs}
-use Rattle.asked_service.specs.declared.unit_launch.launching.UnitLaunch.{UnitLaunch}
-use Rattle.asked_service.specs.declared.unit_launch.launching.UnitLaunch.TheVariants.{Launched, Refused}
+use Rattle.asked_service.specs.launcher.declared.error.LaunchError.{LaunchError}
+use Rattle.asked_service.specs.launcher.declared.launched.Launched.{Launched as Service}
 use Rattle.asked_service.specs.unit_inputs.Settled.{refusals_by}
 use Rattle.asked_service.proofs.OfUnitInputs.Steps as steps
 use Rattle.asked_service.proofs.OfUnitInputs.Steps.{AreRead, refusals_with}
@@ -31,10 +31,10 @@ use Rattle.why_command.specs.Prints.{PrintsWhy, TellsLaunch, TellsWhy, refusals_
 use Rattle.asked_service.specs.unit_inputs.declared.command_answers.ready_text.ReadyText.{ReadyText}
 
 -- each ends as it may
-ends_so : (tried : Tried) (launch : UnitLaunch) (status : ExitStatus) (text : List ℕ) → TellsLaunch tried launch status text
+ends_so : (tried : Tried) (launch : Result Service LaunchError) (status : ExitStatus) (text : List ℕ) → TellsLaunch tried launch status text
     → (status ≡ Done) ⊎ (status ≡ LaunchRefused)
-ends_so tried (Refused refusal) status text tells = inr tells.0
-ends_so tried (Launched service) status text tells = inl tells.0
+ends_so tried (Err error) status text tells = inr tells.0
+ends_so tried (Ok service) status text tells = inl tells.0
 
 module _ (told : Option Files) (unit : List ℕ) (words : List (List ℕ)) where
   -- each ending behind an answer is one

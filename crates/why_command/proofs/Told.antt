@@ -29,9 +29,7 @@ use Rattle.asked_service.specs.launcher.declared.launched.Launched.{Launched as 
 use Rattle.asked_service.specs.open_calls.declared.service.Service.{Service as Maker}
 use Rattle.asked_service.specs.kernel_laws.declared.question_types.question.Question.{Question}
 use Rattle.asked_service.specs.site_table.Table.{Site}
-use Rattle.asked_service.specs.started_units.Starting.{StartsAs, start_refusals}
-use Rattle.asked_service.specs.declared.unit_launch.launching.UnitLaunch.{UnitLaunch}
-use Rattle.asked_service.specs.declared.unit_launch.launching.UnitLaunch.TheVariants.{Launched}
+use Rattle.asked_service.specs.launching.Starting.{StartsAs, start_refusals}
 use Rattle.why_command.specs.Asking.{CanBeAsked}
 use Rattle.why_command.specs.Lines.{reason_text}
 use Rattle.asked_service.specs.unit_inputs.command_answers.ReadyTexts.{IsReadyWith, status_of, text_of}
@@ -39,11 +37,11 @@ use Rattle.why_command.specs.Prints.{TellsLaunch, TellsService, TellsWhy, denied
 use Rattle.asked_service.specs.unit_inputs.declared.command_answers.ready_text.ReadyText.{ReadyText}
 
 -- what starts can be asked
-pub can_be_asked : (tried : Tried) (service : Service) (bounded : Bounded) → StartsAs tried.inputs (Launched service)
+pub can_be_asked : (tried : Tried) (service : Service) (bounded : Bounded) → StartsAs tried.inputs (Ok service)
     → bounded.service ≡ service → IsBounded bounded → CanBeAsked tried bounded
 can_be_asked tried service bounded starts same bounds = record {
   is_bounded = bounds;
-  program = subst (λ (own : Service). RunsProgram (launch_of own.world) own.program) (sym same) starts.comes_to.runs_its_program;
+  program = subst (λ (own : Service). RunsProgram (launch_of own.world) own.program) (sym same) starts.launched.runs_its_program;
   calls = ap (λ (own : Service). own.world.calls) same ∙ own_calls tried.inputs service starts;
   site = ap (λ (own : Service). own.world.site) same ∙ own_site tried.inputs service starts;
 }
@@ -102,9 +100,9 @@ pub told_as : (P : List ℕ → Type 0) (wanted : List ℕ) → P wanted → (re
 told_as P wanted holds (Ok text) is = subst P (sym is) holds
 told_as P wanted holds (Err none) is = tt
 
-pub still_starts : (tried : Tried) (service own : Service) → own ≡ service → StartsAs tried.inputs (Launched service)
-    → StartsAs tried.inputs (Launched own)
-still_starts tried service own same starts = subst (λ (one : Service). StartsAs tried.inputs (Launched one)) (sym same) starts
+pub still_starts : (tried : Tried) (service own : Service) → own ≡ service → StartsAs tried.inputs (Ok service)
+    → StartsAs tried.inputs (Ok own)
+still_starts tried service own same starts = subst (λ (one : Service). StartsAs tried.inputs (Ok one)) (sym same) starts
 
 -- what is so of an answer that is found
 pub so_as : (world : World) (question : Question) (answer found : Bool) → found ≡ answer → IsSo world question found
@@ -116,19 +114,3 @@ pub told_of_it : (tried : Tried) (service : Service) (bounded : Bounded) → bou
     → IfOk result (λ text. TellsService tried bounded.service text.items) → IfOk result (λ text. TellsService tried service text.items)
 told_of_it tried service bounded same result told = subst (λ (own : Service). IfOk result (λ text. TellsService tried own text.items))
     same told
-
--- what is ready is the answer
-pub answers_launch : (tried : Tried) (launch : UnitLaunch) → Prepares (StartsAs tried.inputs) (start_refusals tried.name tried.inputs)
-    (Ok launch) → (result : Result ReadyText CommandError) → IsReadyWith (TellsLaunch tried launch) result
-    → Prepares (λ made. TellsWhy tried (status_of made) (text_of made)) (start_refusals tried.name tried.inputs) result
-answers_launch tried launch starts (Ok made) ready = (starts.0, record { launch = launch; starts = starts.1; tells = ready })
-answers_launch tried launch starts (Err (stop.Refused line)) ready = absurd ready
-answers_launch tried launch starts (Err stop.ReadFault) ready = absurd ready
-answers_launch tried launch starts (Err stop.Memory) ready = tt
-
-pub answers_stop : (tried : Tried) (why : CommandError) → Prepares {T = UnitLaunch} (StartsAs tried.inputs)
-    (start_refusals tried.name tried.inputs) (Err why)
-    → Prepares (λ (made : ReadyText). TellsWhy tried (status_of made) (text_of made)) (start_refusals tried.name tried.inputs) (Err why)
-answers_stop tried (stop.Refused line) is = is
-answers_stop tried stop.ReadFault is = tt
-answers_stop tried stop.Memory is = tt

@@ -1,5 +1,5 @@
 -- What the unit without a line comes to is what the line denies by itself.
-use Rattle.std.proofs.Common.{◌≡◌, ◌∙◌, List, [], ◌∷◌, Vec, Global, ap, ap₂, subst, sym}
+use Rattle.std.proofs.Common.{◌≡◌, ◌∙◌, Ok, List, [], ◌∷◌, Vec, Global, ap, ap₂, subst, sym}
 use Rattle.asked_service.specs.declared.bounding.Bounded.{Bounded}
 use Rattle.why_command.proofs.Asked.{own_calls, own_site, served}
 use Rattle.why_command.specs.deciding_lines.Tried.{inputs_without}
@@ -9,9 +9,8 @@ use Rattle.asked_service.specs.kernel_laws.Launched.{launch_of}
 use Rattle.asked_service.specs.kernel_laws.Questions.{questions}
 use Rattle.asked_service.specs.launcher.declared.launched.Launched.{Launched as Service}
 use Rattle.asked_service.specs.kernel_laws.declared.question_types.question.Question.{Question}
-use Rattle.asked_service.specs.started_units.Starting.{StartsAs}
+use Rattle.asked_service.specs.launching.Starting.{StartsAs}
 use Rattle.asked_service.specs.unit_inputs.Inputs.{Inputs}
-use Rattle.asked_service.specs.declared.unit_launch.launching.UnitLaunch.TheVariants.{Launched}
 use Rattle.asked_service.specs.dropin_merge.declared.unit_values.value.Place.{Place}
 use Rattle.why_command.proofs.Opening.{opens_exactly}
 use Rattle.why_command.specs.opening_lines.ByRule.{opened_by}
@@ -35,7 +34,7 @@ module _ (judged : Judged) (is : IsJudged judged) (place : Place) where
   all_of = is.is_asked.questions ∙ ap₂ questions before_calls before_site
 
   -- the unit without the line is launched
-  module _ (service : Service) (starts : StartsAs less (Launched service)) (after : Bounded) (same : after.service ≡ service) (list : List Question) (listed : list ≡ judged.asked.questions.items) where
+  module _ (service : Service) (starts : StartsAs less (Ok service)) (after : Bounded) (same : after.service ≡ service) (list : List Question) (listed : list ≡ judged.asked.questions.items) where
     pub all_after : list ≡ questions after.service.world.calls after.service.world.site
     all_after =
         listed ∙ all_of
@@ -60,6 +59,6 @@ module _ (judged : Judged) (is : IsJudged judged) (place : Place) where
           (sym (opened_is opened says))
           (opens_exactly answers judged.calls.now judged.site.now
           (world_in judged.asked) service.world judged.asked.bounded.service.program service.program
-          is.is_asked.bounded.served is.is_asked.program (served less service starts) starts.comes_to.runs_its_program before_calls
+          is.is_asked.bounded.served is.is_asked.program (served less service starts) starts.launched.runs_its_program before_calls
           before_site (own_calls less service starts) (own_site less service starts));
     }

@@ -1,5 +1,5 @@
 -- What `why` prints, by the files.
-use Rattle.std.specs.Prelude.{◌≡◌, ◌⊎◌, ◌++◌, ◌∷◌, ℕ, IsSome, List, Option, Some, Ok, flat_map}
+use Rattle.std.specs.Prelude.{◌≡◌, ◌⊎◌, ◌++◌, ◌∷◌, ℕ, IsSome, List, Option, Some, Result, Ok, Err, flat_map}
 use Rattle.asked_service.specs.host_io.Files.{Files}
 use Rattle.asked_service.specs.unit_inputs.command_answers.Laws.{FileLaws}
 use Rattle.asked_service.specs.unit_inputs.command_answers.CommandErrors.{refusal_in}
@@ -13,11 +13,10 @@ use Rattle.asked_service.specs.Answers.{Denied, Open, IsTrueAnswer}
 use Rattle.asked_service.specs.AnswerLines.{answer_lines}
 use Rattle.asked_service.specs.kernel_model.declared.kernel_calls.call.Call.{Call}
 use Rattle.asked_service.specs.launcher.declared.launched.Launched.{Launched as Service}
-use Rattle.asked_service.specs.started_units.Starting.{StartsAs, start_refusals}
+use Rattle.asked_service.specs.launching.Starting.{StartsAs, start_refusals}
 use Rattle.asked_service.specs.unit_inputs.Inputs.{Inputs, input_refusals, inputs_of}
-use Rattle.asked_service.specs.unit_launch.Refusals.{refusal_line}
-use Rattle.asked_service.specs.declared.unit_launch.launching.UnitLaunch.{UnitLaunch}
-use Rattle.asked_service.specs.declared.unit_launch.launching.UnitLaunch.TheVariants.{Launched, Refused}
+use Rattle.asked_service.specs.launching.Refusals.{launch_line}
+use Rattle.asked_service.specs.launcher.declared.error.LaunchError.{LaunchError}
 use Rattle.asked_service.specs.unit_names.Cutting.{name_of}
 use Rattle.asked_service.specs.unit_inputs.Settled.{refusals_by}
 use Rattle.why_command.specs.Asking.{question_in}
@@ -33,13 +32,13 @@ pub data TellsService (tried : Tried) (service : Service) (text : List ℕ) : Ty
       → TellsService tried service text
 
 -- or the launch is refused
-abbrev pub TellsLaunch : Tried → UnitLaunch → ExitStatus → List ℕ → Type 0
-TellsLaunch tried (Refused refusal) status text = (status ≡ LaunchRefused) × (text ≡ refusal_line refusal)
-TellsLaunch tried (Launched service) status text = (status ≡ Done) × TellsService tried service text
+abbrev pub TellsLaunch : Tried → Result Service LaunchError → ExitStatus → List ℕ → Type 0
+TellsLaunch tried (Err error) status text = (status ≡ LaunchRefused) × (text ≡ launch_line error)
+TellsLaunch tried (Ok service) status text = (status ≡ Done) × TellsService tried service text
 
 -- the result of the unit's launch, and the text for it
 pub record TellsWhy (tried : Tried) (status : ExitStatus) (text : List ℕ) : Type 0 where
-  pub launch : UnitLaunch
+  pub launch : Result Service LaunchError
   pub starts : StartsAs tried.inputs launch
   pub tells : TellsLaunch tried launch status text
 

@@ -1,20 +1,20 @@
 //! The answer to a question, and what denies it.
-ghost use Rattle.std.specs.Prelude.{◌≡◌, IfOk, IsErrOf, false, true};
+ghost use Rattle.std.specs.Prelude.{◌≡◌, IfOk, IsErrOf, Ok, false, true};
 ghost use Rattle.asked_service.specs.Asked.{is_open_by};
 ghost use Rattle.asked_service.specs.Rows.{IsSo};
 ghost use Rattle.asked_service.specs.unit_inputs.command_answers.CommandErrors.{Prepares};
 ghost use Rattle.why_command.specs.deciding_lines.Tried.{CanBeTried, tried_of};
-ghost use Rattle.asked_service.specs.started_units.Starting.{StartsAs, start_refusals};
-ghost use Rattle.asked_service.specs.declared.unit_launch.launching.UnitLaunch.TheVariants.{Launched as Started};
+ghost use Rattle.asked_service.specs.launching.Starting.{StartsAs, start_refusals};
 ghost use Rattle.why_command.specs.Asking.{CanBeAsked};
+ghost use Rattle.asked_service.specs.unit_inputs.declared.command_answers.exit_status.ExitStatus.TheVariants.{Done};
 ghost use Rattle.asked_service.specs.unit_inputs.command_answers.ReadyTexts.{IsReadyWith, status_of, text_of};
-ghost use Rattle.why_command.specs.Prints.{TellsLaunch, TellsService, TellsWhy};
+ghost use Rattle.why_command.specs.Prints.{TellsService, TellsWhy};
 
 use crate::deciding_lines::Trial;
 use crate::telling::denied_text;
 use asked_service::{
-    Bounded, CommandError, ExitStatus, Launched, ReadyText, Service, UnitLaunch, bound, calls,
-    open_lines, refusal_line, start,
+    Bounded, CommandError, ExitStatus, Launched, ReadyText, Service, bound, calls, launch_unit,
+    open_lines, tell_refusal,
 };
 use std::alloc::{AllocError, Global};
 
@@ -38,7 +38,7 @@ fn tell_denied<'a>(
     service: Launched<'a>,
 ) -> Result<Vec<u8>, AllocError>
     requires can_be_tried { CanBeTried trial.now }
-    requires starts { StartsAs (tried_of trial.now).inputs (Started service) }
+    requires starts { StartsAs (tried_of trial.now).inputs (Ok service) }
     requires is_so { IsSo service.world trial.now.question false }
     ensures { IfOk result (λ text. TellsService (tried_of trial.now) service.entry text.items) }
 {
@@ -60,7 +60,7 @@ fn tell_service<'a>(
     service: Launched<'a>,
 ) -> Result<Vec<u8>, AllocError>
     requires can_be_tried { CanBeTried trial.now }
-    requires starts { StartsAs (tried_of trial.now).inputs (Started service) }
+    requires starts { StartsAs (tried_of trial.now).inputs (Ok service) }
     ensures { IfOk result (λ text. TellsService (tried_of trial.now) service.entry text.items) }
 {
     let bounded = bound(alloc, service)?;
@@ -71,26 +71,20 @@ fn tell_service<'a>(
     }
 }
 
-// The text for the result of a unit's launch.
-fn tell_launch<'a>(
+// The same, with the exit status after it.
+fn tell_launched<'a>(
     alloc: Global,
     trial: &Trial<'a>,
-    launch: UnitLaunch<'a>,
+    service: Launched<'a>,
 ) -> Result<ReadyText, CommandError>
     requires can_be_tried { CanBeTried trial.now }
-    requires starts { StartsAs (tried_of trial.now).inputs launch }
-    ensures { IsReadyWith (TellsLaunch (tried_of trial.now) launch.entry) result }
+    requires starts { StartsAs (tried_of trial.now).inputs (Ok service) }
+    ensures { IsReadyWith (λ status text. (status ≡ Done) × TellsService (tried_of trial.now) service.entry text) result }
 {
-    match launch {
-        UnitLaunch::Launched(service) => Ok(ReadyText {
-            text: tell_service(alloc, trial, service)?,
-            status: ExitStatus::Done,
-        }),
-        UnitLaunch::Refused(refusal) => Ok(ReadyText {
-            text: refusal_line(alloc, &refusal)?,
-            status: ExitStatus::LaunchRefused,
-        }),
-    }
+    Ok(ReadyText {
+        text: tell_service(alloc, trial, service)?,
+        status: ExitStatus::Done,
+    })
 }
 
 /// Launches the unit, and makes the text of the answer: the question is open, with calls that reach it, or denied, with what
@@ -100,6 +94,8 @@ pub fn answer(alloc: Global, trial: &Trial<'_>) -> Result<ReadyText, CommandErro
     ensures answers { Prepares (λ made. TellsWhy (tried_of trial.now) (status_of made) (text_of made)) (start_refusals trial.now.name.now (tried_of trial.now).inputs) result }
     ensures reads_nothing { IsErrOf result CommandError.ReadFault → ⊥ }
 {
-    let launch = start(alloc, trial.name, trial.unit, trial.calls, trial.site)?;
-    tell_launch(alloc, trial, launch)
+    match launch_unit(alloc, trial.unit, trial.calls, trial.site) {
+        Ok(service) => tell_launched(alloc, trial, service),
+        Err(refusal) => tell_refusal(alloc, trial.name, refusal),
+    }
 }

@@ -8,9 +8,9 @@ use Rattle.asked_service.specs.unit_names.Versions.{is_257}
 use Rattle.asked_service.specs.kernel_model.declared.kernel_calls.call.Call.{Call}
 use Rattle.asked_service.specs.kernel_model.Runs.{replies}
 use Rattle.asked_service.specs.kernel_model.declared.reply.Reply.{Reply}
-use Rattle.asked_service.specs.launched_units.Launching.{IsLaunchedUnit, IsNotLaunched}
-use Rattle.asked_service.specs.declared.launched_units.refusal.UnitRefusal.{UnitRefusal}
-use Rattle.asked_service.specs.declared.launched_units.refusal.UnitRefusal.TheVariants as refusal
+use Rattle.asked_service.specs.launching.Launched.{IsLaunchedUnit, IsNotLaunched}
+use Rattle.asked_service.specs.declared.launching.refusal.Refusal.{Refusal}
+use Rattle.asked_service.specs.declared.launching.refusal.Refusal.TheVariants as refusal
 use Rattle.asked_service.specs.launcher.declared.launched.Launched.{Launched as Service}
 use Rattle.asked_service.specs.site_table.Table.{Site}
 use Rattle.derive_command.specs.trace_profile.Extended.{extended, open_unit}
@@ -18,7 +18,7 @@ use Rattle.derive_command.specs.trace_profile.Names.{AreNames, without}
 use Rattle.derive_command.specs.trace_profile.PlainNames.{HasPlainNames, IsBesideDefault}
 use Rattle.derive_command.specs.trace_profile.Scripts.{first_seccomp}
 use Rattle.derive_command.specs.declared.trace_profile.derived.DeriveError.{DeriveError}
-use Rattle.derive_command.specs.declared.trace_profile.derived.DeriveError.TheVariants.{Seccomp, Settings, Plan, Launch, Memory}
+use Rattle.derive_command.specs.declared.trace_profile.derived.DeriveError.TheVariants.{Seccomp, NotLaunched}
 use Rattle.derive_command.specs.declared.trace_profile.derived.Derived.{Derived}
 
 -- what lists of names are tried on: a unit over a table of calls and a site, a script, and the replies that are wanted
@@ -40,7 +40,7 @@ Serves tried names = Replies tried names tried.said
 
 -- it is not launched, or some reply is another
 pub data Fails (tried : Tried) (names : List ℕ) : Type 0 where
-  not_launched : (error : UnitRefusal) → error ≢ refusal.Memory
+  not_launched : (error : Refusal) → error ≢ refusal.Memory
       → IsNotLaunched (extended tried.unit tried.table names) tried.table tried.site error → Fails tried names
   other_reply : (own : List Reply) → Replies tried names own → own ≢ tried.said → Fails tried names
 
@@ -77,13 +77,8 @@ Derives unit table site script (Ok derived) =
     (first_seccomp table script ≡ None) × IsDerived unit table site script derived.names ×
     (HasPlainNames table → IsOnlyOne unit table site script derived.names)
 Derives unit table site script (Err (Seccomp number)) = first_seccomp table script ≡ Some number
-Derives unit table site script (Err (Settings error)) = (first_seccomp table script ≡ None) × IsNotLaunched
-    (open_unit unit table) table site (refusal.Settings error)
-Derives unit table site script (Err (Plan error)) = (first_seccomp table script ≡ None) × IsNotLaunched (open_unit unit table) table site
-    (refusal.Plan error)
-Derives unit table site script (Err (Launch refused)) = (first_seccomp table script ≡ None) × IsNotLaunched
-    (open_unit unit table) table site (refusal.Launch refused)
-Derives unit table site script (Err Memory) = ⊤
+Derives unit table site script (Err (NotLaunched error)) =
+    (first_seccomp table script ≡ None) × IsNotLaunched (open_unit unit table) table site error
 
 -- a list that was tried serves or fails
 abbrev pub Tells : Tried → List ℕ → Bool → Type 0

@@ -5,7 +5,7 @@ use Rattle.std.specs.Option.{option_map_or}
 use Rattle.asked_service.specs.call_table.Members.{is_first}
 use Rattle.asked_service.specs.call_table.Table.{Table, every_call}
 use Rattle.asked_service.specs.dropin_merge.declared.resolved.Resolved.{Resolved}
-use Rattle.asked_service.specs.launched_units.Longer.{with_file}
+use Rattle.asked_service.specs.launching.Longer.{with_file}
 
 -- the name of the call line at a place
 abbrev pub name_at : Table → ℕ → List ℕ

@@ -1,11 +1,9 @@
 //! What is derived, and why nothing is.
 
 ghost use Rattle.std.specs.Prelude.{◌≡◌};
-ghost use Rattle.derive_command.specs.trace_profile.Errors.{error_of};
+ghost use Rattle.derive_command.specs.declared.trace_profile.derived.DeriveError.TheVariants.{NotLaunched};
 
-use asked_service::launched_units::UnitRefusal;
-use asked_service::unit_launch::LaunchRefusal;
-use asked_service::{ItemList, PlanError, SettingsError};
+use asked_service::{ItemList, Refusal};
 
 /// Places of lines among the call lines of calls.txt, from 0, ascending. Contracts see them as a list.
 pub type Names = ItemList<u32>;
@@ -23,25 +21,14 @@ pub enum DeriveError {
     /// This call of the script, counted from 1, is the first that asks to push a program, seccomp(2). Its reply depends on the
     /// lengths of the launch's programs, which are not the same for all lists.
     Seccomp(u64),
-    /// The unit that allows every call has no settings.
-    Settings(SettingsError),
-    /// It has no plan of mounts.
-    Plan(PlanError),
-    /// It is not launched.
-    Launch(LaunchRefusal),
-    /// Memory ran out.
-    Memory,
+    /// The unit that allows every call is not launched, or memory ran out.
+    NotLaunched(Refusal),
 }
 
-impl From<UnitRefusal> for DeriveError {
-    ghost from_gives = { λ refusal e. e ≡ error_of refusal };
+impl From<Refusal> for DeriveError {
+    ghost from_gives = { λ refusal e. e ≡ NotLaunched refusal };
 
-    fn from(refusal: UnitRefusal) -> Self {
-        match refusal {
-            UnitRefusal::Settings(error) => DeriveError::Settings(error),
-            UnitRefusal::Plan(error) => DeriveError::Plan(error),
-            UnitRefusal::Launch(refused) => DeriveError::Launch(refused),
-            UnitRefusal::Memory => DeriveError::Memory,
-        }
+    fn from(refusal: Refusal) -> Self {
+        DeriveError::NotLaunched(refusal)
     }
 }

@@ -3,7 +3,7 @@
 ghost use Rattle.std.specs.Prelude.{◌≡◌, ◌∷◌, ◌++◌, IfOk, OnOk, flat_map};
 ghost use Rattle.derive_command.specs.trace_profile.Extended.{drop_in_text, extended, name_at};
 
-use asked_service::launched_units::with_file;
+use asked_service::launching::with_file;
 use asked_service::{CallTable, Resolved};
 use std::alloc::{AllocError, Global};
 

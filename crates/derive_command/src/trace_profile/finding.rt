@@ -1,6 +1,6 @@
 //! The least list, derived.
 
-ghost use Rattle.asked_service.specs.launched_units.Launching.{IsNotLaunched};
+ghost use Rattle.asked_service.specs.launching.Launched.{IsNotLaunched};
 ghost use Rattle.derive_command.specs.trace_profile.Derived.{Derives, Serves, tried_with};
 ghost use Rattle.derive_command.specs.trace_profile.Extended.{extended};
 ghost use Rattle.derive_command.specs.trace_profile.Finding.{DerivesOpen};
@@ -17,8 +17,9 @@ use crate::trace_profile::replies::replies_of;
 use crate::trace_profile::scripts::first_seccomp;
 use crate::trace_profile::searching::Trial;
 use crate::trace_profile::used::used_marks;
-use asked_service::launched_units::{UnitRefusal, launch_whole};
-use asked_service::{Call, CallTable, Reply, Resolved, Script, SiteTable, fits};
+use asked_service::{
+    Call, CallTable, Refusal, Reply, Resolved, Script, SiteTable, fits, launch_unit,
+};
 use std::alloc::{AllocError, Global};
 
 // Names that serve: those that the script uses, which as a rule do, or else all.
@@ -41,13 +42,13 @@ fn replies_with(
     site: &SiteTable,
     names: &[u32],
     script: &[Call],
-) -> Result<Vec<Reply>, UnitRefusal>
+) -> Result<Vec<Reply>, Refusal>
     ensures replies { IfOk result (λ said. Serves (tried_with unit.now calls.now site.now script.now said.items) names.now) }
     ensures one_each { IfOk result (λ said. length said.items ≡ length script.now) }
     ensures refused { IfErr result (λ error. IsNotLaunched (extended unit.now calls.now names.now) calls.now site.now error) }
 {
     let open = extended(alloc, unit, calls, names)?;
-    let mut service = launch_whole(alloc, &open, calls, site)?;
+    let mut service = launch_unit(alloc, &open, calls, site)?;
     let said = replies_of(alloc, &mut service.world, script)?;
     Ok(said)
 }
@@ -59,7 +60,7 @@ fn derive_open(
     calls: &CallTable,
     site: &SiteTable,
     script: &Script,
-) -> Result<Derived, UnitRefusal>
+) -> Result<Derived, Refusal>
     ensures { DerivesOpen unit.now calls.now site.now script.now result }
 {
     let every = every_name(alloc, calls)?;
@@ -95,9 +96,8 @@ fn calls_fit(script: &[Call])
 /// file, which has at most 1 MiB, and for any other with plain names. With systemd 257 the list decides about no_new_privs too:
 /// then another list has them only if one of the two names capget(2), capset(2) and prctl(2), and the other not all of them.
 ///
-/// Returns `Seccomp` with the first call of the script that asks to push a program, before all else. Returns `Settings`, `Plan`
-/// or `Launch` exactly if the unit that allows every call is refused for that reason, the first of them in this order. Memory
-/// can run out for any unit.
+/// Returns `Seccomp` with the first call of the script that asks to push a program, before all else. Returns `NotLaunched` with
+/// the refusal of the unit that allows every call. Memory can run out for any unit.
 pub fn derive(
     alloc: Global,
     unit: &Resolved,

@@ -2,14 +2,13 @@
 
 ghost use Rattle.std.specs.Prelude.{◌≡◌, ◌≢◌, IfOk, false, length};
 ghost use Rattle.derive_command.specs.trace_profile.Derived.{IsLeast, Tells};
-ghost use Rattle.asked_service.specs.declared.launched_units.refusal.UnitRefusal.TheVariants.{Memory};
+ghost use Rattle.asked_service.specs.declared.launching.refusal.Refusal.TheVariants.{Memory};
 ghost use Rattle.derive_command.specs.trace_profile.Searching.{AreKept, AreServing, LeavesOut, tried_of};
 
 use crate::trace_profile::extending::extended;
 use crate::trace_profile::names::without;
 use crate::trace_profile::replies::are_replies;
-use asked_service::launched_units::{UnitRefusal, launch_whole};
-use asked_service::{Call, CallTable, Reply, Resolved, SiteTable};
+use asked_service::{Call, CallTable, Refusal, Reply, Resolved, SiteTable, launch_unit};
 use std::alloc::{AllocError, Global};
 
 /// What lists of names are tried on.
@@ -28,11 +27,11 @@ pub struct Trial<'a> {
 }
 
 // A unit that is not launched does not serve. If memory runs out, that says nothing of the unit.
-fn fails(error: UnitRefusal) -> Result<bool, AllocError>
+fn fails(error: Refusal) -> Result<bool, AllocError>
     ensures { IfOk result (λ serves. (serves ≡ false) × (error ≢ Memory)) }
 {
     match error {
-        UnitRefusal::Memory => Err(AllocError),
+        Refusal::Memory => Err(AllocError),
         _ => Ok(false),
     }
 }
@@ -44,7 +43,7 @@ impl<'a> Trial<'a> {
         ensures tells_whether_they_serve { IfOk result (Tells (tried_of self.now) names.now) }
     {
         let unit = extended(alloc, self.unit, self.calls, names)?;
-        match launch_whole(alloc, &unit, self.calls, self.site) {
+        match launch_unit(alloc, &unit, self.calls, self.site) {
             Ok(mut service) => are_replies(alloc, &mut service.world, self.script, self.said),
             Err(error) => fails(error),
         }

@@ -13,7 +13,7 @@ ghost use Rattle.asked_service.specs.mount_plan.Host.{host_of};
 ghost use Rattle.asked_service.specs.path_settings.Mentioned.{AreKept};
 ghost use Rattle.asked_service.specs.site_table.Table.{kind_at};
 ghost use Rattle.asked_service.specs.site_table.declared.kinds.RowKind.TheVariants.{Dir};
-ghost use Rattle.asked_service.specs.unit_launch.Launching.{IsLaunched};
+ghost use Rattle.asked_service.specs.launching.Launched.{IsLaunched};
 
 use crate::alike::asked::Asked;
 use abs_path::AbsPath;
@@ -92,7 +92,7 @@ fn is_blind_at(
 }
 
 /// Returns whether the folder of the question is a folder of the site that the service is blind to. Then the service
-/// is the same on the other site: what `settings`, `plan` and `launch_unit` ensure of it meets each premise of the
+/// is the same on the other site: what `settings`, `plan` and `launch_planned` ensure of it meets each premise of the
 /// law of two sites.
 pub fn is_blind_there(
     alloc: Global,

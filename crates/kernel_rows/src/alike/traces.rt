@@ -5,12 +5,12 @@ ghost use Rattle.asked_service.specs.exec_settings.Refusals.{refusal_of};
 ghost use Rattle.asked_service.specs.kern_mounts.Launch.{CanBeMounted};
 ghost use Rattle.asked_service.specs.mount_plan.Answers.{Plans};
 ghost use Rattle.asked_service.specs.mount_plan.Host.{host_of};
-ghost use Rattle.asked_service.specs.unit_launch.Launching.{IsLaunched};
+ghost use Rattle.asked_service.specs.launching.Launched.{IsLaunched};
 
 use crate::alike::asked::Asked;
 use crate::alike::elsewhere::is_blind_there;
-use asked_service::unit_launch::{UnitLaunch, launch_unit};
-use asked_service::{Call, Launched, MountStep, Reply, Settings, World, plan, settings};
+use asked_service::launching::launch_planned;
+use asked_service::{Call, Launched, MountStep, Refusal, Reply, Settings, World, plan, settings};
 use row_tools::said;
 use std::alloc::{AllocError, Global};
 
@@ -68,9 +68,10 @@ fn launched(
     requires plan { Plans (host_of asked.now.site.now) settings.now.mentions (Ok plan.now) }
     requires mounts { CanBeMounted (host_of asked.now.site.now) plan.now }
 {
-    match &mut launch_unit(alloc, settings, plan, asked.calls, asked.site)? {
-        UnitLaunch::Launched(service) => told(alloc, asked, settings, plan, service),
-        UnitLaunch::Refused(_) => stopped(alloc, said(alloc, "refused")),
+    match &mut launch_planned(alloc, settings, plan, asked.calls, asked.site) {
+        Ok(service) => told(alloc, asked, settings, plan, service),
+        Err(Refusal::Memory) => Err(AllocError),
+        Err(_) => stopped(alloc, said(alloc, "refused")),
     }
 }
 

@@ -2,7 +2,7 @@
 use Rattle.std.specs.Prelude.{◌==◌, ◌-◌, ℕ, Bool, List, [], ◌∷◌, ◌++◌, codes, filter, flat_map}
 use Rattle.std.specs.List.{list_any, range_with_len, slice_index_or}
 use Rattle.asked_service.specs.dropin_merge.declared.resolved.Resolved.{Resolved}
-use Rattle.asked_service.specs.launched_units.Longer.{with_file}
+use Rattle.asked_service.specs.launching.Longer.{with_file}
 
 -- their lines in order
 abbrev pub lines : List (List ℕ)

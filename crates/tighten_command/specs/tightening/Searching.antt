@@ -5,7 +5,7 @@ use Rattle.asked_service.specs.Asked.{IsBounded}
 use Rattle.asked_service.specs.declared.bounding.Bounded.{Bounded}
 use Rattle.asked_service.specs.kernel_laws.Questions.{questions}
 use Rattle.asked_service.specs.kernel_model.World.{World}
-use Rattle.asked_service.specs.launched_units.Launching.{IsLaunchedUnit}
+use Rattle.asked_service.specs.launching.Launched.{IsLaunchedUnit}
 use Rattle.tighten_command.specs.tightening.Items.{has, tightened}
 use Rattle.tighten_command.specs.tightening.Tried.{Displeases, IsFirst, IsKept, IsShut, Pleases, Refuses, Stops, Tried, tried_with}
 use Rattle.tighten_command.specs.tightening.Wishes.{Wishes}

@@ -1,11 +1,10 @@
 -- How far a unit can be tightened.
-use Rattle.std.specs.Prelude.{◌≡◌, ◌≤◌, ⊤, ℕ, false, List, [], ◌∷◌, Result, Ok, Err}
+use Rattle.std.specs.Prelude.{◌≡◌, ◌≤◌, ℕ, false, List, [], ◌∷◌, Result, Ok, Err}
 use Rattle.std.specs.List.{All}
 use Rattle.std.specs.List.Sorted.{IsStrictlyIncreasing}
 use Rattle.asked_service.specs.call_table.Table as calls
 use Rattle.asked_service.specs.dropin_merge.declared.resolved.Resolved.{Resolved}
-use Rattle.asked_service.specs.launched_units.Launching.{IsLaunchedUnit, IsNotLaunched}
-use Rattle.asked_service.specs.declared.launched_units.refusal.UnitRefusal.TheVariants as refusal
+use Rattle.asked_service.specs.launching.Launched.{IsLaunchedUnit, IsNotLaunched}
 use Rattle.asked_service.specs.launcher.declared.launched.Launched.{Launched as Service}
 use Rattle.asked_service.specs.site_table.Table.{Site}
 use Rattle.asked_service.specs.Rows.{AreRowsOf, count_denied, count_open}
@@ -14,7 +13,7 @@ use Rattle.tighten_command.specs.tightening.Items.{has, tightened}
 use Rattle.tighten_command.specs.tightening.Tried.{IsFirst, IsKept, IsShut, Refuses, Serves, Stops, Tried}
 use Rattle.tighten_command.specs.declared.tightening.tight.Tight.{Tight}
 use Rattle.tighten_command.specs.declared.tightening.tight.TightenError.{TightenError}
-use Rattle.tighten_command.specs.declared.tightening.tight.TightenError.TheVariants.{Settings, Plan, Launch, Keep, Wish, Memory}
+use Rattle.tighten_command.specs.declared.tightening.tight.TightenError.TheVariants.{NotLaunched, Keep, Wish}
 
 -- so many questions of the unit's service are denied, and so many open
 pub record AreCounts (unit : Resolved) (table : calls.Table) (site : Site) (denied open' : ℕ) : Type 0 where
@@ -49,9 +48,6 @@ pub record RefusesWish (tried : Tried) (number : ℕ) : Type 0 where
 -- the result of tightening: the unit itself decides first; if memory runs out, nothing is stated
 abbrev pub Tightens : Tried → Result Tight TightenError → Type 0
 Tightens tried (Ok tight) = IsTight tried tight
-Tightens tried (Err (Settings error)) = IsNotLaunched tried.unit tried.table tried.site (refusal.Settings error)
-Tightens tried (Err (Plan error)) = IsNotLaunched tried.unit tried.table tried.site (refusal.Plan error)
-Tightens tried (Err (Launch refused)) = IsNotLaunched tried.unit tried.table tried.site (refusal.Launch refused)
+Tightens tried (Err (NotLaunched error)) = IsNotLaunched tried.unit tried.table tried.site error
 Tightens tried (Err (Keep number)) = Denies tried number
 Tightens tried (Err (Wish number)) = RefusesWish tried number
-Tightens tried (Err Memory) = ⊤

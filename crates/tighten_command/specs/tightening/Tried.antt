@@ -5,9 +5,9 @@ use Rattle.asked_service.specs.call_table.Table as calls
 use Rattle.asked_service.specs.dropin_merge.declared.resolved.Resolved.{Resolved}
 use Rattle.asked_service.specs.kernel_laws.Denied.{IsDenied}
 use Rattle.asked_service.specs.kernel_model.World.{World}
-use Rattle.asked_service.specs.launched_units.Launching.{IsLaunchedUnit, IsNotLaunched}
-use Rattle.asked_service.specs.declared.launched_units.refusal.UnitRefusal.{UnitRefusal}
-use Rattle.asked_service.specs.declared.launched_units.refusal.UnitRefusal.TheVariants as refusal
+use Rattle.asked_service.specs.launching.Launched.{IsLaunchedUnit, IsNotLaunched}
+use Rattle.asked_service.specs.declared.launching.refusal.Refusal.{Refusal}
+use Rattle.asked_service.specs.declared.launching.refusal.Refusal.TheVariants as refusal
 use Rattle.asked_service.specs.launcher.declared.launched.Launched.{Launched as Service}
 use Rattle.asked_service.specs.kernel_laws.declared.question_types.question.Question.{Question}
 use Rattle.asked_service.specs.site_table.Table.{Site}
@@ -60,7 +60,7 @@ pub record Serves (tried : Tried) (set : List ℕ) : Type 0 where
 
 -- it has no settings, no plan or no launch; or it is launched to a service with which someone is not
 pub data Stops (tried : Tried) (set : List ℕ) : Type 0 where
-  not_launched : (error : UnitRefusal) → error ≢ refusal.Memory → IsNotLaunched (tightened tried.unit set) tried.table tried.site error
+  not_launched : (error : Refusal) → error ≢ refusal.Memory → IsNotLaunched (tightened tried.unit set) tried.table tried.site error
       → Stops tried set
   displeases : (service : Service) → IsLaunchedUnit (tightened tried.unit set) tried.table tried.site service
       → Displeases tried service.world → Stops tried set

@@ -5,7 +5,7 @@ ghost use Rattle.std.specs.List.{All};
 ghost use Rattle.tighten_command.specs.tightening.Items.{drop_in_text, has, in_order, line_of, lines, tightened};
 
 use asked_service::Resolved;
-use asked_service::launched_units::with_file;
+use asked_service::launching::with_file;
 use std::alloc::{AllocError, Global};
 
 // The lines of all items, in the order of their numbers, from 1.

@@ -1,12 +1,10 @@
 //! How far a unit can be tightened, and why it cannot.
 
 ghost use Rattle.std.specs.Prelude.{◌≡◌};
-ghost use Rattle.tighten_command.specs.tightening.Errors.{error_of};
-ghost use Rattle.tighten_command.specs.declared.tightening.tight.TightenError.TheVariants.{Memory};
+ghost use Rattle.asked_service.specs.declared.launching.refusal.Refusal.TheVariants.{Memory};
+ghost use Rattle.tighten_command.specs.declared.tightening.tight.TightenError.TheVariants.{NotLaunched};
 
-use asked_service::launched_units::UnitRefusal;
-use asked_service::unit_launch::LaunchRefusal;
-use asked_service::{ItemList, PlanError, SettingsError};
+use asked_service::{ItemList, Refusal};
 use std::alloc::AllocError;
 
 /// Numbers of items, from 1; contracts see them as a list.
@@ -30,37 +28,26 @@ pub struct Tight {
 /// Why a unit is not tightened.
 #[derive(Drop)]
 pub enum TightenError {
-    /// The unit itself has no settings.
-    Settings(SettingsError),
-    /// It has no plan of mounts.
-    Plan(PlanError),
-    /// It is not launched.
-    Launch(LaunchRefusal),
+    /// The unit itself is not launched, or memory ran out.
+    NotLaunched(Refusal),
     /// This question of those to be kept, counted from 1, is the first that the unit itself denies.
     Keep(u64),
     /// This wish, counted from 1, is the first that answers false for the unit itself.
     Wish(u64),
-    /// Memory ran out.
-    Memory,
 }
 
 impl From<AllocError> for TightenError {
-    ghost from_gives = { λ _ e. e ≡ Memory };
+    ghost from_gives = { λ _ e. e ≡ NotLaunched Memory };
 
     fn from(_: AllocError) -> Self {
-        TightenError::Memory
+        TightenError::NotLaunched(Refusal::Memory)
     }
 }
 
-impl From<UnitRefusal> for TightenError {
-    ghost from_gives = { λ refusal e. e ≡ error_of refusal };
+impl From<Refusal> for TightenError {
+    ghost from_gives = { λ refusal e. e ≡ NotLaunched refusal };
 
-    fn from(refusal: UnitRefusal) -> Self {
-        match refusal {
-            UnitRefusal::Settings(error) => TightenError::Settings(error),
-            UnitRefusal::Plan(error) => TightenError::Plan(error),
-            UnitRefusal::Launch(refused) => TightenError::Launch(refused),
-            UnitRefusal::Memory => TightenError::Memory,
-        }
+    fn from(refusal: Refusal) -> Self {
+        TightenError::NotLaunched(refusal)
     }
 }

@@ -12,9 +12,8 @@ use crate::tightening::searching::Held;
 use crate::tightening::tight::{Items, Tight, TightenError};
 use crate::tightening::trial::{Lack, Trial};
 use crate::tightening::wishes::{StoredWish, Wished};
-use asked_service::launched_units::launch_whole;
 use asked_service::{
-    Bounded, CallTable, Question, Resolved, SiteTable, bound, count_open, openness,
+    Bounded, CallTable, Question, Resolved, SiteTable, bound, count_open, launch_unit, openness,
 };
 use question_text::questions;
 use std::alloc::{AllocError, Global};
@@ -58,7 +57,7 @@ fn tighten_trial<'a>(
     requires can_be_tried { CanBeTried trial.now }
     ensures { Tightens (tried_of trial.now (⟦<StoredWish as Wished>⟧.wished wishes.now)) result }
 {
-    let service = launch_whole(alloc, trial.unit, trial.calls, trial.site)?;
+    let service = launch_unit(alloc, trial.unit, trial.calls, trial.site)?;
     let own = bound(alloc, service)?;
     match trial.lack(alloc, wishes, &own)? {
         Some(Lack::Keep(number)) => Err(TightenError::Keep(number)),
@@ -73,10 +72,9 @@ fn tighten_trial<'a>(
 /// on all questions, so that its own questions are open. With any other of the seventeen items it does not serve. The items
 /// outside the set are tried from the last down, as long as one was added.
 ///
-/// Returns `Settings`, `Plan` or `Launch` exactly if the unit itself is refused for that reason, the first of them in this
-/// order. Otherwise returns `Keep(n)` exactly if question n of `keep`, from 1, is the first that the unit denies. Otherwise
-/// returns `Wish(n)` exactly if wish n is the first that answered false on the unit's verdicts. Memory can run out for any
-/// unit.
+/// Returns `NotLaunched` with the refusal of the unit itself. Otherwise returns `Keep(n)` exactly if question n of `keep`, from
+/// 1, is the first that the unit denies. Otherwise returns `Wish(n)` exactly if wish n is the first that answered false on the
+/// unit's verdicts. Memory can run out for any unit.
 pub fn tighten(
     alloc: Global,
     unit: &Resolved,

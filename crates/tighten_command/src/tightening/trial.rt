@@ -2,7 +2,7 @@
 
 ghost use Rattle.std.specs.Prelude.{◌≡◌, ◌<◌, ◌≢◌, IfOk, None, length};
 ghost use Rattle.std.specs.List.{All};
-ghost use Rattle.asked_service.specs.declared.launched_units.refusal.UnitRefusal.TheVariants.{Memory};
+ghost use Rattle.asked_service.specs.declared.launching.refusal.Refusal.TheVariants.{Memory};
 ghost use Rattle.tighten_command.specs.tightening.Items.{in_order};
 ghost use Rattle.tighten_command.specs.tightening.Searching.{CanBeTried, IsOver, Lacks, Pleasing, Tells, tried_of};
 ghost use Rattle.tighten_command.specs.tightening.Tried.{IsKept};
@@ -10,9 +10,9 @@ ghost use Rattle.tighten_command.specs.tightening.Tried.{IsKept};
 use crate::tightening::firsts::{first_denied, first_refused};
 use crate::tightening::items::tightened;
 use crate::tightening::wishes::{StoredWish, Wished};
-use asked_service::launched_units::{UnitRefusal, launch_whole};
 use asked_service::{
-    Bounded, CallTable, Question, Resolved, SiteTable, bound, openness, verdict_rows,
+    Bounded, CallTable, Question, Refusal, Resolved, SiteTable, bound, launch_unit, openness,
+    verdict_rows,
 };
 use std::alloc::{AllocError, Global};
 
@@ -41,11 +41,11 @@ pub enum Lack {
 }
 
 // A unit that is not launched has no service. If memory runs out, that says nothing of the unit.
-fn none_for<'a>(refusal: UnitRefusal) -> Result<Option<Bounded<'a>>, AllocError>
+fn none_for<'a>(refusal: Refusal) -> Result<Option<Bounded<'a>>, AllocError>
     ensures { IfOk result (λ found. (found ≡ None) × (refusal ≢ Memory)) }
 {
     match refusal {
-        UnitRefusal::Memory => Err(AllocError),
+        Refusal::Memory => Err(AllocError),
         _ => Ok(None),
     }
 }
@@ -121,7 +121,7 @@ impl<'a> Trial<'a> {
         ensures tells_whether_they_serve { IfOk result (Tells (tried_of self.now (⟦<StoredWish as Wished>⟧.wished wishes.now)) set.now) }
     {
         let unit = tightened(alloc, self.unit, set)?;
-        match launch_whole(alloc, &unit, self.calls, self.site) {
+        match launch_unit(alloc, &unit, self.calls, self.site) {
             Ok(service) => self.unless_lacking(alloc, wishes, bound(alloc, service)?),
             Err(refusal) => none_for(refusal),
         }

@@ -1,8 +1,7 @@
 -- Which assignments in force of a unit deny a question.
-use Rattle.std.specs.Prelude.{ℕ, List}
+use Rattle.std.specs.Prelude.{ℕ, List, Ok}
 use Rattle.why_command.specs.deciding_lines.Least.{AreNeeded, IsPartOf}
-use Rattle.asked_service.specs.started_units.Starting.{StartsAs}
-use Rattle.asked_service.specs.declared.unit_launch.launching.UnitLaunch.TheVariants.{Launched}
+use Rattle.asked_service.specs.launching.Starting.{StartsAs}
 use Rattle.asked_service.specs.launcher.declared.launched.Launched.{Launched as Service}
 use Rattle.asked_service.specs.dropin_merge.declared.unit_values.value.Place.{Place}
 use Rattle.why_command.specs.deciding_lines.Bare.{bare_places}
@@ -18,7 +17,7 @@ pub record AreDeciding (tried : Tried) (places : List Place) : Type 0 where
 
 -- if of some lines these stay, the unit is launched to this service
 abbrev pub IsLaunchedWith : Tried → List Place → List Place → Service → Type 0
-IsLaunchedWith tried lines kept service = StartsAs (inputs_without tried.inputs (all_but kept lines)) (Launched service)
+IsLaunchedWith tried lines kept service = StartsAs (inputs_without tried.inputs (all_but kept lines)) (Ok service)
 
 -- it is not launched
 abbrev pub IsNotLaunchedWith : Tried → List Place → List Place → Type 0

@@ -1,19 +1,17 @@
 -- A unit without some of its assignments in force, asked one question.
-use Rattle.std.specs.Prelude.{◌≡◌, ℕ, Bool, true, false, List, Some, Contains}
+use Rattle.std.specs.Prelude.{◌≢◌, ℕ, Bool, true, false, List, Ok, Contains}
 use Rattle.asked_service.specs.kernel_laws.Denied.{IsDenied}
 use Rattle.asked_service.specs.kernel_laws.Questions.{questions}
 use Rattle.asked_service.specs.kernel_model.World.{World}
 use Rattle.asked_service.specs.kernel_ways.Laws.{IsShown}
 use Rattle.asked_service.specs.launcher.declared.launched.Launched.{Launched as Service}
 use Rattle.asked_service.specs.kernel_laws.declared.question_types.question.Question.{Question}
-use Rattle.asked_service.specs.started_units.Starting.{StartsAs, first_start, given}
+use Rattle.asked_service.specs.launching.Starting.{StartsAs, given}
 use Rattle.asked_service.specs.unit_inputs.Inputs.{Inputs}
-use Rattle.asked_service.specs.unit_inputs.declared.command_answers.error.CommandError.{CommandError}
-use Rattle.asked_service.specs.unit_inputs.declared.command_answers.error.CommandError.TheVariants as stop
-use Rattle.asked_service.specs.unit_launch.Refusals as launch
-use Rattle.asked_service.specs.declared.unit_launch.launching.UnitLaunch.{UnitLaunch}
-use Rattle.asked_service.specs.declared.unit_launch.launching.UnitLaunch.TheVariants.{Launched, Refused}
-use Rattle.asked_service.specs.declared.unit_launch.refusal.LaunchRefusal.{LaunchRefusal}
+use Rattle.asked_service.specs.declared.launching.refusal.Refusal.{Refusal}
+use Rattle.asked_service.specs.declared.launching.refusal.Refusal.TheVariants.{Memory}
+use Rattle.asked_service.specs.launching.Launched as launching
+use Rattle.asked_service.specs.launching.Refusals.{refusal_line}
 use Rattle.why_command.specs.deciding_lines.unit_lines.Without.{without}
 use Rattle.asked_service.specs.dropin_merge.declared.unit_values.value.Place.{Place}
 use Rattle.why_command.specs.declared.deciding_lines.starting.Started.{Started}
@@ -39,24 +37,24 @@ inputs_without inputs places = given (without places inputs.unit) inputs.calls i
 
 -- the line of a unit that has no settings, no plan of mounts or no launch
 pub data IsNotLaunched (name : List ℕ) (inputs : Inputs) : List ℕ → Type 0 where
-  launch_refused : (refusal : LaunchRefusal) → StartsAs inputs (Refused refusal) → IsNotLaunched name inputs (launch.refusal_line refusal)
-  unit_refused : (line : List ℕ) → first_start name inputs ≡ Some line → IsNotLaunched name inputs line
+  is_refused : (refusal : Refusal) → refusal ≢ Memory → launching.IsNotLaunched inputs.unit inputs.calls inputs.site refusal
+      → IsNotLaunched name inputs (refusal_line name refusal)
 
 -- what a unit starts as: its service, or the line of what is refused
 abbrev pub IsStarted : List ℕ → Inputs → Started → Type 0
-IsStarted name inputs (started.Launched service) = StartsAs inputs (Launched service)
+IsStarted name inputs (started.Launched service) = StartsAs inputs (Ok service)
 IsStarted name inputs (started.Refused line) = IsNotLaunched name inputs line.items
 
 -- the unit has settings, a plan of its mounts and a launch, and some list of calls shows the question
 pub record IsOpenFor (inputs : Inputs) (question : Question) : Type 0 where
   pub service : Service
-  pub starts : StartsAs inputs (Launched service)
+  pub starts : StartsAs inputs (Ok service)
   pub shown : IsShown service.world question
 
 -- it has them, and no list of calls of its service reaches the question
 pub record IsDeniedFor (inputs : Inputs) (question : Question) : Type 0 where
   pub service : Service
-  pub starts : StartsAs inputs (Launched service)
+  pub starts : StartsAs inputs (Ok service)
   pub denied : IsDenied service.world question
 
 -- it is denied; or the launch of the unit is refused, or a setting or a path of it
@@ -85,17 +83,3 @@ TellsOpen tried places false = IsShutWithout tried places
 abbrev pub IsSaid : World → Question → Bool → Type 0
 IsSaid world question true = IsShown world question
 IsSaid world question false = IsDenied world question
-
--- the line of a refusal before the launch
-abbrev pub IsRefusedBy : List ℕ → Started → Type 0
-IsRefusedBy line (started.Launched service) = ⊥
-IsRefusedBy line (started.Refused told) = told.items ≡ line
-
-abbrev pub TellsLaunch : UnitLaunch → Started → Type 0
-TellsLaunch (Launched service) told = told ≡ started.Launched service
-TellsLaunch (Refused refusal) told = IsRefusedBy (launch.refusal_line refusal) told
-
-abbrev pub TellsStop : CommandError → Started → Type 0
-TellsStop (stop.Refused line) told = told ≡ started.Refused line
-TellsStop stop.ReadFault told = ⊥
-TellsStop stop.Memory told = ⊥

@@ -1,5 +1,5 @@
 -- What `why` and a unit alone print, by the files.
-use Rattle.std.specs.Prelude.{◌≡◌, ◌⊎◌, ◌++◌, ℕ, IsSome, List, Option, Some}
+use Rattle.std.specs.Prelude.{◌≡◌, ◌⊎◌, ◌++◌, ℕ, IsSome, List, Option, Some, Result, Ok, Err}
 use Rattle.asked_service.specs.host_io.Files.{Files}
 use Rattle.asked_service.specs.unit_inputs.command_answers.Laws.{FileLaws}
 use Rattle.asked_service.specs.unit_inputs.declared.command_answers.exit_status.ExitStatus.{ExitStatus}
@@ -7,11 +7,10 @@ use Rattle.asked_service.specs.unit_inputs.declared.command_answers.exit_status.
 use Rattle.asked_service.specs.launcher.declared.launched.Launched.{Launched as Service}
 use Rattle.why_command.specs.opening_lines.Opening.{AreAlone}
 use Rattle.why_command.specs.declared.opening_lines.each.LineAlone.{LineAlone}
-use Rattle.asked_service.specs.started_units.Starting.{StartsAs, start_refusals}
+use Rattle.asked_service.specs.launching.Starting.{StartsAs, start_refusals}
 use Rattle.asked_service.specs.unit_inputs.Inputs.{Inputs, input_refusals, inputs_of}
-use Rattle.asked_service.specs.unit_launch.Refusals.{refusal_line}
-use Rattle.asked_service.specs.declared.unit_launch.launching.UnitLaunch.{UnitLaunch}
-use Rattle.asked_service.specs.declared.unit_launch.launching.UnitLaunch.TheVariants.{Launched, Refused}
+use Rattle.asked_service.specs.launching.Refusals.{launch_line}
+use Rattle.asked_service.specs.launcher.declared.error.LaunchError.{LaunchError}
 use Rattle.asked_service.specs.unit_names.Cutting.{name_of}
 use Rattle.asked_service.specs.unit_inputs.Settled.{refusals_by}
 use Rattle.why_command.specs.lines_command.Lines.{lines_text}
@@ -23,13 +22,13 @@ pub record TellsService (name : List ℕ) (inputs : Inputs) (service : Service) 
   pub is_its_text : text ≡ lines_text inputs.calls inputs.site inputs.unit.files told
 
 -- or the launch is refused
-abbrev pub TellsLaunch : List ℕ → Inputs → UnitLaunch → ExitStatus → List ℕ → Type 0
-TellsLaunch name inputs (Refused refusal) status text = (status ≡ LaunchRefused) × (text ≡ refusal_line refusal)
-TellsLaunch name inputs (Launched service) status text = (status ≡ Done) × TellsService name inputs service text
+abbrev pub TellsLaunch : List ℕ → Inputs → Result Service LaunchError → ExitStatus → List ℕ → Type 0
+TellsLaunch name inputs (Err error) status text = (status ≡ LaunchRefused) × (text ≡ launch_line error)
+TellsLaunch name inputs (Ok service) status text = (status ≡ Done) × TellsService name inputs service text
 
 -- the result of the unit's launch, and the text for it
 pub record TellsLines (name : List ℕ) (inputs : Inputs) (status : ExitStatus) (text : List ℕ) : Type 0 where
-  pub launch : UnitLaunch
+  pub launch : Result Service LaunchError
   pub starts : StartsAs inputs launch
   pub tells : TellsLaunch name inputs launch status text
 

@@ -1,9 +1,8 @@
 -- A unit that is launched, with all that it is asked.
-use Rattle.std.specs.Prelude.{List}
+use Rattle.std.specs.Prelude.{List, Ok}
 use Rattle.asked_service.specs.Asking.{IsAsked, world_in}
-use Rattle.asked_service.specs.started_units.Starting.{StartsAs, given}
+use Rattle.asked_service.specs.launching.Starting.{StartsAs, given}
 use Rattle.asked_service.specs.unit_inputs.Inputs.{Inputs}
-use Rattle.asked_service.specs.declared.unit_launch.launching.UnitLaunch.TheVariants.{Launched}
 use Rattle.asked_service.specs.dropin_merge.declared.unit_values.value.Place.{Place}
 use Rattle.asked_service.specs.kernel_laws.Launched.{launch_of}
 use Rattle.asked_service.specs.kernel_laws.declared.question_types.question.Question.{Question}
@@ -17,7 +16,7 @@ inputs_in judged = given judged.unit.now judged.calls.now judged.site.now
 
 -- by its settings and the plan of its mounts it is launched to this service, which is asked all questions of the tables
 pub record IsJudged (judged : Judged) : Type 0 where
-  pub starts : StartsAs (inputs_in judged) (Launched judged.asked.bounded.service)
+  pub starts : StartsAs (inputs_in judged) (Ok judged.asked.bounded.service)
   pub is_asked : IsAsked judged.asked
 
 -- what its line at a place denies by itself

@@ -1,5 +1,5 @@
 -- What an assignment in force of a unit denies by itself.
-use Rattle.std.specs.Prelude.{◌≡◌, ℕ, List, [], ◌∷◌, map}
+use Rattle.std.specs.Prelude.{◌≡◌, ℕ, List, [], ◌∷◌, Ok, map}
 use Rattle.std.specs.List.{All}
 use Rattle.why_command.specs.deciding_lines.Tried.{IsNotLaunched, inputs_without}
 use Rattle.asked_service.specs.kernel_laws.Denied.{IsDenied}
@@ -7,9 +7,8 @@ use Rattle.asked_service.specs.kernel_laws.Questions.{questions}
 use Rattle.asked_service.specs.kernel_model.World.{World}
 use Rattle.asked_service.specs.launcher.declared.launched.Launched.{Launched as Service}
 use Rattle.asked_service.specs.kernel_laws.declared.question_types.question.Question.{Question}
-use Rattle.asked_service.specs.started_units.Starting.{StartsAs}
+use Rattle.asked_service.specs.launching.Starting.{StartsAs}
 use Rattle.asked_service.specs.unit_inputs.Inputs.{Inputs}
-use Rattle.asked_service.specs.declared.unit_launch.launching.UnitLaunch.TheVariants.{Launched}
 use Rattle.why_command.specs.deciding_lines.unit_lines.Lines.{lines_of}
 use Rattle.asked_service.specs.dropin_merge.declared.unit_values.value.Place.{Place}
 use Rattle.asked_service.specs.verdict_changes.Changes.{IsOpen}
@@ -31,7 +30,7 @@ pub data OpensOf (before after : World) : List Question → List Question → Ty
 -- and open of its service
 pub record OpensExactly (before : World) (inputs : Inputs) (opened : List Question) : Type 0 where
   pub service : Service
-  pub starts : StartsAs inputs (Launched service)
+  pub starts : StartsAs inputs (Ok service)
   pub exactly : OpensOf before service.world (questions inputs.calls inputs.site) opened
 
 -- of the unit without the assignment in force at this place alone; or that unit has no settings, no plan or no launch

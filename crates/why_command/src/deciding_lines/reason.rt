@@ -1,7 +1,6 @@
 //! Why a question is denied of a unit.
-ghost use Rattle.std.specs.Prelude.{IfOk};
-ghost use Rattle.asked_service.specs.started_units.Starting.{StartsAs};
-ghost use Rattle.asked_service.specs.declared.unit_launch.launching.UnitLaunch.TheVariants.{Launched as Service};
+ghost use Rattle.std.specs.Prelude.{IfOk, Ok};
+ghost use Rattle.asked_service.specs.launching.Starting.{StartsAs};
 ghost use Rattle.why_command.specs.deciding_lines.Deciding.{IsReason, IsReasonAt};
 ghost use Rattle.why_command.specs.deciding_lines.Searching.{DeniesWithout};
 ghost use Rattle.why_command.specs.deciding_lines.Tried.{CanBeTried, IsNotLaunched, inputs_without, tried_of};
@@ -37,7 +36,7 @@ impl<'a> Trial<'a> {
         otherwise: Reason,
     ) -> Result<Reason, AllocError>
         requires can_be_tried { CanBeTried self.now }
-        requires starts { StartsAs (inputs_without (tried_of self.now).inputs gone.items) (Service service) }
+        requires starts { StartsAs (inputs_without (tried_of self.now).inputs gone.items) (Ok service) }
         ensures { IfOk result (DeniesWithout (tried_of self.now) gone.items otherwise) }
     {
         let is_open = is_open_of(alloc, service, &self.question)?;
@@ -58,7 +57,7 @@ impl<'a> Trial<'a> {
         line: Vec<u8>,
     ) -> Result<Reason, AllocError>
         requires can_be_tried { CanBeTried self.now }
-        requires starts { StartsAs (tried_of self.now).inputs (Service whole) }
+        requires starts { StartsAs (tried_of self.now).inputs (Ok whole) }
         requires refused { IsNotLaunched (tried_of self.now).name (inputs_without (tried_of self.now).inputs lines.now) line.items }
         ensures { IfOk result (IsReasonAt (tried_of self.now) lines.now) }
     {
@@ -76,7 +75,7 @@ impl<'a> Trial<'a> {
     /// put back from the last of the [`bare_places`] to the first, repeatedly, as long as the question stays open.
     pub fn reason(&self, alloc: Global, whole: Launched<'a>) -> Result<Reason, AllocError>
         requires can_be_tried { CanBeTried self.now }
-        requires starts { StartsAs (tried_of self.now).inputs (Service whole) }
+        requires starts { StartsAs (tried_of self.now).inputs (Ok whole) }
         ensures is_the_reason { IfOk result (IsReason (tried_of self.now)) }
     {
         let lines = bare_places(alloc, self.unit)?;

@@ -1,12 +1,11 @@
 //! A unit that starts without some of its lines.
 ghost use Rattle.std.specs.Prelude.{IfOk};
-ghost use Rattle.asked_service.specs.started_units.Starting.{given};
-ghost use Rattle.why_command.specs.deciding_lines.Tried.{IsStarted, TellsLaunch, TellsStop, inputs_without};
+ghost use Rattle.asked_service.specs.launching.Starting.{given};
+ghost use Rattle.why_command.specs.deciding_lines.Tried.{IsStarted, inputs_without};
 
 use crate::deciding_lines::unit_lines::without;
-use asked_service::started_units::start;
-use asked_service::unit_launch::{UnitLaunch, refusal_line};
-use asked_service::{CallTable, CommandError, Launched, Place, Resolved, SiteTable};
+use asked_service::launching::refusal_line;
+use asked_service::{CallTable, Launched, Place, Refusal, Resolved, SiteTable, launch_unit};
 use std::alloc::{AllocError, Global};
 
 /// What a unit starts as.
@@ -16,26 +15,6 @@ pub enum Started<'a> {
     Launched(Launched<'a>),
     /// Nothing: it has no settings, no plan of mounts or no launch, for which this is the line.
     Refused(Vec<u8>),
-}
-
-// The service of a launch, or the line of its refusal.
-fn of_launch<'a>(alloc: Global, launch: UnitLaunch<'a>) -> Result<Started<'a>, AllocError>
-    ensures { IfOk result (TellsLaunch launch.entry) }
-{
-    match launch {
-        UnitLaunch::Launched(service) => Ok(Started::Launched(service)),
-        UnitLaunch::Refused(refusal) => Ok(Started::Refused(refusal_line(alloc, &refusal)?)),
-    }
-}
-
-// The line of a stop before the launch.
-fn of_stop<'a>(stop: CommandError) -> Result<Started<'a>, AllocError>
-    ensures { IfOk result (TellsStop stop) }
-{
-    match stop {
-        CommandError::Refused(line) => Ok(Started::Refused(line)),
-        CommandError::ReadFault | CommandError::Memory => Err(AllocError),
-    }
 }
 
 /// Starts a unit without the assignments in force at these places.
@@ -50,8 +29,9 @@ pub fn start_without<'a>(
     ensures starts { IfOk result (IsStarted name.now (inputs_without (given unit.now calls.now site.now) places.now)) }
 {
     let less = without(alloc, unit, places)?;
-    match start(alloc, name, &less, calls, site) {
-        Ok(launch) => of_launch(alloc, launch),
-        Err(stop) => of_stop(stop),
+    match launch_unit(alloc, &less, calls, site) {
+        Ok(service) => Ok(Started::Launched(service)),
+        Err(Refusal::Memory) => Err(AllocError),
+        Err(refusal) => Ok(Started::Refused(refusal_line(alloc, name, &refusal)?)),
     }
 }

@@ -1,7 +1,6 @@
 //! What a line of a unit denies by itself.
-ghost use Rattle.std.specs.Prelude.{◌≡◌, ◌∷◌, [], IfOk};
-ghost use Rattle.asked_service.specs.started_units.Starting.{StartsAs};
-ghost use Rattle.asked_service.specs.declared.unit_launch.launching.UnitLaunch.TheVariants.{Launched as Starts};
+ghost use Rattle.std.specs.Prelude.{◌≡◌, ◌∷◌, [], IfOk, Ok};
+ghost use Rattle.asked_service.specs.launching.Starting.{StartsAs};
 ghost use Rattle.why_command.specs.deciding_lines.Tried.{inputs_without};
 ghost use Rattle.why_command.specs.opening_lines.Judging.{IsAloneOf, IsJudged, inputs_in, shut_in};
 
@@ -40,7 +39,7 @@ impl Judged<'_> {
     ) -> Result<Alone, AllocError>
         requires judged { IsJudged self.now }
         requires shut { shut.now ≡ shut_in self.now }
-        requires starts { StartsAs (inputs_without (inputs_in self.now) (place ∷ [])) (Starts service) }
+        requires starts { StartsAs (inputs_without (inputs_in self.now) (place ∷ [])) (Ok service) }
         ensures { IfOk result (IsAloneOf self.now place) }
     {
         // The law that the verdicts are exact.

@@ -1,6 +1,8 @@
 use Rattle.asked_service.specs.unit_inputs.declared.command_answers.exit_status.ExitStatus.TheVariants.{Done}
+use Rattle.asked_service.proofs.OfUnitInputs.ReadyTexts.{ready_reads_nothing}
+use Rattle.std.proofs.Common.{◌≡◌}
 use Rattle.derive_command.specs.trace_profile.Extended.{drop_in_text}
-use Rattle.derive_command.proofs.Told.{derived_answers, error_answers, ready_reads_nothing, telling_reads_nothing}
+use Rattle.derive_command.proofs.Told.{derived_answers, line_reads_nothing, refusal_answers, seccomp_answers}
 use Rattle.derive_command.proofs.answering.answer.Goals as goal
 
 pub returns-in-Ok-clause-answers : goal.returns-in-Ok-clause-answers
@@ -9,12 +11,20 @@ returns-in-Ok-clause-answers c =
     c.list.result.now c.allow_names.result c.in-Ok.ensures.derives c.list.ensures.all_in_order c.allow_names.ensures
 
 pub returns-in-Ok-clause-reads_nothing : goal.returns-in-Ok-clause-reads_nothing
-returns-in-Ok-clause-reads_nothing c = ready_reads_nothing (drop_in_text c.args.calls.now c.list.result.now) Done c.allow_names.result c.allow_names.ensures
+returns-in-Ok-clause-reads_nothing c =
+    ready_reads_nothing (λ status text. (status ≡ Done) × (text ≡ drop_in_text c.args.calls.now c.list.result.now)) c.allow_names.result
+    c.allow_names.ensures
 
-pub returns-in-Err-clause-answers : goal.returns-in-Err-clause-answers
-returns-in-Err-clause-answers c =
-    error_answers c.args.name.now c.args.path.now c.args.unit.now c.args.calls.now c.args.site.now c.args.script.now c.in-Err.error
-    c.tell.result c.in-Err.ensures.derives c.tell.ensures
+pub returns-in-Seccomp-clause-answers : goal.returns-in-Seccomp-clause-answers
+returns-in-Seccomp-clause-answers c =
+    seccomp_answers c.args.name.now c.args.path.now c.args.unit.now c.args.calls.now c.args.site.now c.args.script.now
+    c.in-Seccomp.number c.seccomp_line.result c.refuse.result c.in-Seccomp.ensures.derives c.refuse.ensures.tells_the_line
+    c.seccomp_line.ensures.tells_the_call
 
-pub returns-in-Err-clause-reads_nothing : goal.returns-in-Err-clause-reads_nothing
-returns-in-Err-clause-reads_nothing c = telling_reads_nothing c.args.name.now c.args.path.now c.in-Err.error c.tell.result c.tell.ensures
+pub returns-in-Seccomp-clause-reads_nothing : goal.returns-in-Seccomp-clause-reads_nothing
+returns-in-Seccomp-clause-reads_nothing c = line_reads_nothing c.seccomp_line.result c.refuse.result c.refuse.ensures.tells_the_line
+
+pub returns-in-NotLaunched-clause-answers : goal.returns-in-NotLaunched-clause-answers
+returns-in-NotLaunched-clause-answers c =
+    refusal_answers c.args.name.now c.args.path.now c.args.unit.now c.args.calls.now c.args.site.now c.args.script.now
+    c.in-NotLaunched.refusal c.tell_refusal.result c.in-NotLaunched.ensures.derives c.tell_refusal.ensures.tells

@@ -3,7 +3,7 @@ use Rattle.asked_service.specs.unit_inputs.command_answers.Laws.{IsAdmitted, law
 use Rattle.asked_service.proofs.OfUnitInputs.FileCommands.{at_stop}
 use Rattle.asked_service.specs.unit_names.Cutting.{name_of}
 use Rattle.asked_service.specs.unit_inputs.Inputs.{inputs_of, inputs_view}
-use Rattle.asked_service.specs.started_units.Starting.{given}
+use Rattle.asked_service.specs.launching.Starting.{given}
 use Rattle.asked_service.proofs.Given.{same_inputs}
 use Rattle.asked_service.proofs.OfUnitInputs.Reading.{named, read_behind}
 use Rattle.asked_service.specs.unit_inputs.command_answers.ReadyTexts.{status_of, text_of}

@@ -1,7 +1,7 @@
 use Rattle.std.proofs.Common.{Err, Ok}
 use Rattle.asked_service.specs.unit_inputs.command_answers.CommandErrors.{Prepares}
 use Rattle.asked_service.proofs.OfUnitInputs.FileCommands.{at_stop}
-use Rattle.asked_service.specs.started_units.Starting.{given}
+use Rattle.asked_service.specs.launching.Starting.{given}
 use Rattle.asked_service.specs.unit_inputs.command_answers.ReadyTexts.{status_of, text_of}
 use Rattle.effect_command.specs.Prints.{TellsBoth, TellsWith}
 use Rattle.effect_command.specs.Refusals.{refusals_behind_dropin}

@@ -1,7 +1,6 @@
-use Rattle.std.proofs.Common.{refl}
+use Rattle.std.proofs.Common.{Ok, refl}
 use Rattle.asked_service.specs.unit_inputs.declared.command_answers.error.CommandError.TheVariants as stop
 use Rattle.asked_service.proofs.OfUnitInputs.FileCommands.{at_stop}
-use Rattle.asked_service.specs.declared.unit_launch.launching.UnitLaunch.TheVariants.{Launched}
 use Rattle.effect_command.specs.Prints.{TellsBoth}
 use Rattle.asked_service.specs.unit_inputs.command_answers.ReadyTexts.{IsReadyWith}
 use Rattle.effect_command.proofs.Compared.{compared, same_calls, same_site}
@@ -9,14 +8,14 @@ use Rattle.effect_command.proofs.comparing.compare_services.Goals as goal
 
 pub ask-requires : goal.ask-requires
 ask-requires c = record {
-  served = c.requires.together.first.launched.is_served;
-  program = c.requires.together.first.launched.runs_its_program;
+  served = c.requires.together.first.1.launched.is_served;
+  program = c.requires.together.first.1.launched.runs_its_program;
 }
 
 pub ask-requires-2 : goal.ask-requires-2
 ask-requires-2 c = record {
-  served = c.requires.together.second.launched.is_served;
-  program = c.requires.together.second.launched.runs_its_program;
+  served = c.requires.together.second.1.launched.is_served;
+  program = c.requires.together.second.1.launched.runs_its_program;
 }
 
 pub effect_text-requires : goal.effect_text-requires
@@ -37,15 +36,15 @@ returns c = λ table site one other.
 
 pub returns-in_err-first : goal.returns-in_err-first
 returns-in_err-first c = λ table site one other. at_stop
-    (IsReadyWith (TellsBoth table site (Launched c.args.before) (Launched c.args.after))) c.from_residual.result stop.Memory
+    (IsReadyWith (TellsBoth table site (Ok c.args.before) (Ok c.args.after))) c.from_residual.result stop.Memory
     c.from_residual.ensures.1 tt
 
 pub returns-in_err-second : goal.returns-in_err-second
 returns-in_err-second c =
-    λ table site one other. at_stop (IsReadyWith (TellsBoth table site (Launched c.args.before) (Launched c.args.after)))
+    λ table site one other. at_stop (IsReadyWith (TellsBoth table site (Ok c.args.before) (Ok c.args.after)))
     c.from_residual-in_err-second.result stop.Memory c.from_residual-in_err-second.ensures.1 tt
 
 pub returns-in_err-effect_text : goal.returns-in_err-effect_text
 returns-in_err-effect_text c = λ table site one other. at_stop
-    (IsReadyWith (TellsBoth table site (Launched c.args.before) (Launched c.args.after))) c.from_residual-in_err-effect_text.result
+    (IsReadyWith (TellsBoth table site (Ok c.args.before) (Ok c.args.after))) c.from_residual-in_err-effect_text.result
     stop.Memory c.from_residual-in_err-effect_text.ensures.1 tt

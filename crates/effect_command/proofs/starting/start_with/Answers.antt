@@ -1,4 +1,4 @@
-use Rattle.asked_service.specs.started_units.Starting.{given}
+use Rattle.asked_service.specs.launching.Starting.{given}
 use Rattle.effect_command.proofs.Started.{behind_reads_nothing, starts_with_ok, starts_with_stop}
 use Rattle.effect_command.proofs.starting.start_with.Goals as goal
 

@@ -1,7 +1,7 @@
 use Rattle.std.proofs.Common.{◌≡◌, ◌++◌, Err, Ok, ap, length, subst, ◌∙◌}
 use Rattle.std.specs.Prelude.{IfOk}
 use Rattle.asked_service.proofs.OfUnitInputs.Texts.{text_short, text_then}
-use Rattle.asked_service.specs.unit_launch.Told.{told_of}
+use Rattle.asked_service.specs.launching.Told.{told_of}
 use Rattle.asked_service.specs.Asking.{world_in}
 use Rattle.judge_command.specs.Asked.{denied_among}
 use Rattle.asked_service.specs.ByRule.{answers_of}

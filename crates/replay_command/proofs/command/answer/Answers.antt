@@ -1,5 +1,6 @@
 use Rattle.asked_service.proofs.OfUnitInputs.Stopped.{ran_stopped}
 use Rattle.replay_command.proofs.Runs.{ran_prepared, together}
+use Rattle.replay_command.proofs.Steps.{stops_before_paths}
 use Rattle.replay_command.specs.Prepared.{IsPrepared}
 use Rattle.replay_command.specs.Prints.{replay_laws}
 use Rattle.asked_service.specs.unit_inputs.Asking.{asks_with_file}
@@ -10,21 +11,23 @@ use Rattle.replay_command.proofs.command.answer.Goals as goal
 
 pub returns-in-Ok-clause-runs : goal.returns-in-Ok-clause-runs
 returns-in-Ok-clause-runs g c =
-    ran_prepared (g.S.Shelf.told c.args.shelf.now) c.args.unit.now c.args.script.now _ c.answer_prepared.result c.in-Ok.prepared
-    c.in-Ok.ensures.can_be_started c.in-Ok.ensures.prepares c.in-Ok.ensures.reads_for_the_unit.fault_rose
+    ran_prepared (g.S.Shelf.told c.args.shelf.now) c.args.unit.now c.args.script.now c.in-Ok.prepared c.in-Ok.ensures.can_be_started
+    c.in-Ok.ensures.prepares _ c.answer_prepared.result c.in-Ok.ensures.reads_for_the_unit.fault_rose
     c.answer_prepared.ensures.finishes
 
 pub returns-in-Err-clause-runs : goal.returns-in-Err-clause-runs
 returns-in-Err-clause-runs g c =
     ran_stopped (replay_laws c.args.unit.now c.args.script.now) (λ files. IsPrepared files c.args.unit.now c.args.script.now)
     (g.S.Shelf.told c.args.shelf.now) (together (g.S.Shelf.told c.args.shelf.now) c.args.unit.now c.args.script.now) _
-    c.finish_error.result c.in-Err.stop c.in-Err.ensures.prepares c.in-Err.ensures.reads_for_the_unit.reads_for_a_name
+    c.finish_error.result c.in-Err.stop
+    (stops_before_paths (g.S.Shelf.told c.args.shelf.now) c.args.unit.now c.args.script.now c.in-Err.stop c.in-Err.ensures.prepares)
+    c.in-Err.ensures.reads_for_the_unit.reads_for_a_name
     c.in-Err.ensures.reads_for_the_unit.fault_rose c.finish_error.ensures.finishes
 
 pub returns-in-Ok-clause-asks_in_order : goal.returns-in-Ok-clause-asks_in_order
 returns-in-Ok-clause-asks_in_order g c =
     order_started g.S.Shelf.asks (g.S.Shelf.told c.args.shelf.now)
-    (λ files. asks_with_file files c.args.unit.now c.args.script.now) c.args.shelf.now c.prepare.new.shelf c.in-Ok.prepared
+    (λ files. asks_with_file files c.args.unit.now c.args.script.now) c.args.shelf.now c.prepare.new.shelf c.args.unit.now c.in-Ok.prepared
     c.answer_prepared.result _ c.answer_prepared.ensures.finishes c.in-Ok.ensures.asks_in_order
 
 pub returns-in-Err-clause-asks_in_order : goal.returns-in-Err-clause-asks_in_order

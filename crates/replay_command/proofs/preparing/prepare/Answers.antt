@@ -2,61 +2,30 @@ use Rattle.std.proofs.Common.{ap, ◌∙◌}
 use Rattle.std.specs.Prelude.{IfSome}
 use Rattle.asked_service.specs.unit_inputs.command_answers.CommandErrors.{Prepares}
 use Rattle.asked_service.proofs.OfUnitInputs.FileCommands.{at_stop}
-use Rattle.asked_service.specs.mount_plan.Host.{host_of}
-use Rattle.asked_service.specs.plan_command.Planned.{IsPlan}
-use Rattle.replay_command.specs.Prepared.{IsPrepared, replay_refusals}
-use Rattle.replay_command.proofs.Steps.{can_start, is_prepared, script_is, stops_at_inputs, stops_at_paths, stops_at_script}
+use Rattle.replay_command.specs.Prepared.{IsPrepared, settled_refusals}
+use Rattle.replay_command.proofs.Steps.{can_start, is_prepared, script_is, stops_at_inputs, stops_at_script}
 use Rattle.replay_command.proofs.Steps.{stops_at_settings}
 use Rattle.asked_service.specs.unit_inputs.Asking.{asks_with_file}
 use Rattle.asked_service.specs.host_io.Calls.{Whole}
 use Rattle.asked_service.specs.unit_inputs.declared.settling.SettledUnit.{SettledUnit}
 use Rattle.asked_service.specs.kernel_model.declared.kernel_calls.call.Call.{Call}
-use Rattle.asked_service.specs.kern_mounts.declared.step.MountStep.{MountStep}
 use Rattle.std.proofs.Common.{List}
 use Rattle.asked_service.proofs.OfUnitInputs.Ordering.{order_quiet_stopped, stops_at_file, stops_before_file, with_file}
 use Rattle.replay_command.proofs.preparing.prepare.Goals as goal
 
-pub returns-in_err-plan-clause-prepares : goal.returns-in_err-plan-clause-prepares
-returns-in_err-plan-clause-prepares g c =
-    at_stop (λ result. IfSome (g.S.Shelf.told c.args.shelf.now)
-    (λ files. Prepares (IsPrepared files c.args.unit.now c.args.script.now)
-    (replay_refusals files c.args.unit.now c.args.script.now) result))
-    c.from_residual-in_err-plan.result c.in_err-plan.field-0.0 c.from_residual-in_err-plan.ensures.1
-    (stops_at_paths (g.S.Shelf.told c.args.shelf.now) c.args.unit.now c.args.script.now c.in_ok-inputs.inputs c.in_ok-made.made
-    c.in_ok-one.one c.deref-2.result.now.mentions c.deref-3.result.now
-    c.in_ok-one.ensures.settles.1.0 c.in_ok-one.ensures.settles.1.1
-    (ap (λ settings. settings.mentions) c.deref-2.ensures ∙ c.in_ok-one.ensures.settles.1.1.mentions_written_and_implied)
-    c.deref-3.ensures
-    c.in_ok-one.ensures.settles.0
-    (IsPlan (host_of c.deref-3.result.now) c.deref-2.result.now.mentions)
-    c.in_err-plan.field-0.0
-    c.in_ok-inputs.ensures.reads_by_the_files
-    (script_is (g.S.Shelf.told c.args.shelf.now) (g.S.Shelf.told c.read_inputs.new.shelf) c.args.script.now c.in_ok-inputs.inputs
-    c.deref.result.now c.in_ok-made.made c.in_ok-inputs.ensures.reads_for_the_unit.map_stays c.deref.ensures
-    c.in_ok-made.ensures.reads_the_script)
-    c.in_err-plan.ensures.plan_or_first_refusal)
-
 pub returns-clause-prepares : goal.returns-clause-prepares
 returns-clause-prepares g c =
-    is_prepared (g.S.Shelf.told c.args.shelf.now) c.args.unit.now c.args.script.now c.in_ok-inputs.inputs c.in_ok-made.made
-    c.in_ok-one.one c.deref-2.result.now.mentions c.deref-3.result.now
-    c.in_ok-one.ensures.settles.1.0 c.in_ok-one.ensures.settles.1.1
-    (ap (λ settings. settings.mentions) c.deref-2.ensures ∙ c.in_ok-one.ensures.settles.1.1.mentions_written_and_implied)
-    c.deref-3.ensures
-    c.in_ok-one.ensures.settles.0
-    c.in_ok-plan.plan
+    is_prepared c.args.unit.now c.args.script.now c.in_ok-inputs.inputs c.in_ok-made.made c.in_ok-one.one c.in_ok-one.ensures.settles
+    (g.S.Shelf.told c.args.shelf.now)
     c.in_ok-inputs.ensures.reads_by_the_files
     (script_is (g.S.Shelf.told c.args.shelf.now) (g.S.Shelf.told c.read_inputs.new.shelf) c.args.script.now c.in_ok-inputs.inputs
     c.deref.result.now c.in_ok-made.made c.in_ok-inputs.ensures.reads_for_the_unit.map_stays c.deref.ensures
     c.in_ok-made.ensures.reads_the_script)
-    c.in_ok-plan.ensures.plan_or_first_refusal
 
 pub returns-clause-can_be_started : goal.returns-clause-can_be_started
 returns-clause-can_be_started g c =
-    can_start c.in_ok-inputs.inputs c.in_ok-one.one c.in_ok-made.made c.list.result.now c.deref-2.result.now.mentions c.deref-3.result.now
-    c.in_ok-plan.plan
-    c.in_ok-one.ensures.settles.1.0 c.in_ok-one.ensures.settles.1.1 c.deref-3.ensures c.in_ok-plan.ensures.plan_or_first_refusal.1
-    c.list.ensures.all_in_order c.calls_fit.ensures
+    can_start c.args.unit.now c.args.script.now c.in_ok-inputs.inputs c.in_ok-made.made c.in_ok-one.one c.in_ok-one.ensures.settles
+    c.list.result.now c.list.ensures.all_in_order c.calls_fit.ensures
 
 pub returns-in_err-inputs-clause-asks_in_order : goal.returns-in_err-inputs-clause-asks_in_order
 returns-in_err-inputs-clause-asks_in_order g c =
@@ -82,17 +51,6 @@ returns-in_err-one-clause-asks_in_order g c =
     c.in_ok-inputs.ensures.reads_for_the_unit.map_stays c.in_ok-inputs.ensures.reads_by_the_files c.in_ok-inputs.ensures.asks_in_order
     c.in_ok-made.ensures.asks_for_it)
 
-pub returns-in_err-plan-clause-asks_in_order : goal.returns-in_err-plan-clause-asks_in_order
-returns-in_err-plan-clause-asks_in_order g c =
-    order_quiet_stopped g.S.Shelf.asks (g.S.Shelf.told c.args.shelf.now)
-    (λ files. asks_with_file files c.args.unit.now c.args.script.now) c.args.shelf.now c.read_script.new.shelf
-    (List MountStep) c.from_residual-in_err-plan.result c.in_err-plan.field-0.0 c.from_residual-in_err-plan.ensures.1
-    c.in_err-plan.ensures.reads_nothing
-    (with_file g.S.Shelf.asks (g.S.Shelf.told c.args.shelf.now) c.args.unit.now c.args.script.now c.args.shelf.now c.read_inputs.new.shelf
-    c.read_script.new.shelf (g.S.Shelf.told c.read_inputs.new.shelf) c.in_ok-inputs.inputs Whole
-    c.in_ok-inputs.ensures.reads_for_the_unit.map_stays c.in_ok-inputs.ensures.reads_by_the_files c.in_ok-inputs.ensures.asks_in_order
-    c.in_ok-made.ensures.asks_for_it)
-
 pub returns-clause-asks_in_order : goal.returns-clause-asks_in_order
 returns-clause-asks_in_order g c =
     with_file g.S.Shelf.asks (g.S.Shelf.told c.args.shelf.now) c.args.unit.now c.args.script.now c.args.shelf.now c.read_inputs.new.shelf
@@ -104,7 +62,7 @@ pub returns-in_err-inputs-clause-prepares : goal.returns-in_err-inputs-clause-pr
 returns-in_err-inputs-clause-prepares g c =
     at_stop (λ result. IfSome (g.S.Shelf.told c.args.shelf.now)
     (λ files. Prepares (IsPrepared files c.args.unit.now c.args.script.now)
-    (replay_refusals files c.args.unit.now c.args.script.now) result)) c.from_residual.result c.in_err-inputs.field-0.0
+    (settled_refusals files c.args.unit.now c.args.script.now) result)) c.from_residual.result c.in_err-inputs.field-0.0
     c.from_residual.ensures.1
     (stops_at_inputs (λ inputs. Unit {0}) (g.S.Shelf.told c.args.shelf.now) c.args.unit.now c.args.script.now c.in_err-inputs.field-0.0
     c.in_err-inputs.ensures.reads_by_the_files)
@@ -113,7 +71,7 @@ pub returns-in_err-made-clause-prepares : goal.returns-in_err-made-clause-prepar
 returns-in_err-made-clause-prepares g c =
     at_stop (λ result. IfSome (g.S.Shelf.told c.args.shelf.now)
     (λ files. Prepares (IsPrepared files c.args.unit.now c.args.script.now)
-    (replay_refusals files c.args.unit.now c.args.script.now) result)) c.from_residual-in_err-made.result c.in_err-made.field-0.0
+    (settled_refusals files c.args.unit.now c.args.script.now) result)) c.from_residual-in_err-made.result c.in_err-made.field-0.0
     c.from_residual-in_err-made.ensures.1
     (stops_at_script (g.S.Shelf.told c.args.shelf.now) (g.S.Shelf.told c.read_inputs.new.shelf) c.args.unit.now c.args.script.now
     c.in_ok-inputs.inputs c.deref.result.now c.in_err-made.field-0.0 c.in_ok-inputs.ensures.reads_for_the_unit.map_stays c.deref.ensures
@@ -123,7 +81,7 @@ pub returns-in_err-one-clause-prepares : goal.returns-in_err-one-clause-prepares
 returns-in_err-one-clause-prepares g c =
     at_stop (λ result. IfSome (g.S.Shelf.told c.args.shelf.now)
     (λ files. Prepares (IsPrepared files c.args.unit.now c.args.script.now)
-    (replay_refusals files c.args.unit.now c.args.script.now) result)) c.from_residual-in_err-one.result c.in_err-one.field-0.0
+    (settled_refusals files c.args.unit.now c.args.script.now) result)) c.from_residual-in_err-one.result c.in_err-one.field-0.0
     c.from_residual-in_err-one.ensures.1
     (stops_at_settings (λ one. Unit {0}) (g.S.Shelf.told c.args.shelf.now) c.args.unit.now c.args.script.now c.in_ok-inputs.inputs
     c.in_ok-made.made c.in_err-one.field-0.0 c.in_ok-inputs.ensures.reads_by_the_files

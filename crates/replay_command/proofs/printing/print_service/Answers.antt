@@ -3,7 +3,7 @@ use Rattle.std.specs.Prelude.{IfOk}
 use Rattle.asked_service.proofs.OfUnitInputs.Texts.{text_at_error, text_cut, text_then}
 use Rattle.replay_command.specs.Lines.{run_text}
 use Rattle.asked_service.specs.report_text.Launches.{launched_line}
-use Rattle.asked_service.specs.unit_launch.Told.{told_of}
+use Rattle.asked_service.specs.launching.Told.{told_of}
 use Rattle.replay_command.specs.Texts.{count_line}
 use Rattle.replay_command.proofs.Ends.{count_ends, launched_ends}
 use Rattle.replay_command.proofs.printing.print_service.Goals as goal

@@ -4,7 +4,7 @@ use Rattle.asked_service.specs.unit_inputs.declared.command_answers.error.Comman
 use Rattle.asked_service.specs.unit_inputs.command_answers.Laws.{IsAdmitted, laws_over}
 use Rattle.asked_service.proofs.OfUnitInputs.FileCommands.{at_stop}
 use Rattle.asked_service.specs.kernel_laws.declared.question_types.question.Question.{Question}
-use Rattle.asked_service.specs.started_units.Starting.{given}
+use Rattle.asked_service.specs.launching.Starting.{given}
 use Rattle.asked_service.specs.unit_inputs.Asking.{input_asks}
 use Rattle.asked_service.specs.unit_inputs.Inputs.{inputs_of, inputs_view}
 use Rattle.asked_service.proofs.OfUnitInputs.Ordering.{order_quiet, order_quiet_stopped}

@@ -1,6 +1,6 @@
 use Rattle.std.proofs.Common.{◌≡◌, ◌∙◌, subst}
 use Rattle.std.specs.Prelude.{IfOk}
-use Rattle.asked_service.specs.launched_units.Longer.{with_file}
+use Rattle.asked_service.specs.launching.Longer.{with_file}
 use Rattle.derive_command.proofs.trace_profile.extending.extended.Goals as goal
 
 pub returns : goal.returns

@@ -1,4 +1,4 @@
-use Rattle.asked_service.specs.declared.launched_units.refusal.UnitRefusal.TheVariants.{Memory}
+use Rattle.asked_service.specs.declared.launching.refusal.Refusal.TheVariants.{Memory}
 use Rattle.derive_command.specs.trace_profile.Finding.{DerivesOpen}
 use Rattle.derive_command.proofs.Tried.{at_error, derived_is, every_serve, not_opened}
 use Rattle.derive_command.proofs.trace_profile.finding.derive_open.Goals as goal

@@ -1,6 +1,6 @@
 use Rattle.std.proofs.Common.{sym, subst}
 use Rattle.std.specs.Prelude.{IfErr}
-use Rattle.asked_service.specs.launched_units.Launching.{IsLaunchedUnit, IsNotLaunched}
+use Rattle.asked_service.specs.launching.Launched.{IsLaunchedUnit, IsNotLaunched}
 use Rattle.derive_command.specs.trace_profile.Extended.{extended}
 use Rattle.derive_command.proofs.Tried.{at_error}
 use Rattle.derive_command.proofs.trace_profile.finding.replies_with.Goals as goal

@@ -1,15 +1,15 @@
-use Rattle.tighten_command.specs.tightening.Errors.{error_of}
+use Rattle.tighten_command.specs.declared.tightening.tight.TightenError.TheVariants.{NotLaunched}
 use Rattle.tighten_command.specs.tightening.Searching.{tried_of}
 use Rattle.tighten_command.specs.tightening.Wishes.{wishes_by}
 use Rattle.tighten_command.specs.tightening.Tight.{Tightens}
-use Rattle.tighten_command.proofs.Served.{at_error, denies_one, is_over, own_service, refuses_one, unlaunched}
+use Rattle.tighten_command.proofs.Served.{at_error, denies_one, is_over, own_service, refuses_one}
 use Rattle.tighten_command.proofs.tightening.tightening.tighten_trial.Goals as goal
 
 pub returns-in_err-service : goal.returns-in_err-service
 returns-in_err-service g c =
     let tried = tried_of c.args.trial.now (wishes_by (λ wish. wish.must_open) (λ wish shown answer. (goal.Fn-dyn g).post (wish.test.vtable, wish.test.value) (shown, tt) answer) c.args.wishes.now) in
-    at_error (Tightens tried) c.from_residual.result (error_of c.in_err-service.field-0.0) c.from_residual.ensures.1
-    (unlaunched tried c.in_err-service.field-0.0 c.in_err-service.ensures.launches)
+    at_error (Tightens tried) c.from_residual.result (NotLaunched c.in_err-service.field-0.0) c.from_residual.ensures.1
+    c.in_err-service.ensures.launches
 
 pub bound-requires : goal.bound-requires
 bound-requires g c = record { served = c.in_ok-service.ensures.launches.launched.is_served }

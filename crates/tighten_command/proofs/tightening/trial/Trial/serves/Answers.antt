@@ -1,5 +1,5 @@
 use Rattle.std.proofs.Common.{subst, sym}
-use Rattle.asked_service.specs.launched_units.Launching.{IsLaunchedUnit}
+use Rattle.asked_service.specs.launching.Launched.{IsLaunchedUnit}
 use Rattle.asked_service.specs.launcher.declared.launched.Launched.{Launched as Service}
 use Rattle.tighten_command.specs.tightening.Searching.{tried_of}
 use Rattle.tighten_command.specs.tightening.Wishes.{wishes_by}

@@ -1,7 +1,6 @@
-use Rattle.std.proofs.Common.{List, ap, subst, sym, ◌∙◌}
+use Rattle.std.proofs.Common.{List, Ok, ap, subst, sym, ◌∙◌}
 use Rattle.asked_service.specs.dropin_merge.declared.unit_values.value.Place.{Place}
-use Rattle.asked_service.specs.started_units.Starting.{StartsAs}
-use Rattle.asked_service.specs.declared.unit_launch.launching.UnitLaunch.TheVariants.{Launched}
+use Rattle.asked_service.specs.launching.Starting.{StartsAs}
 use Rattle.why_command.specs.deciding_lines.Least.{IsPartOf}
 use Rattle.why_command.specs.deciding_lines.Tried.{inputs_without, tried_of}
 use Rattle.why_command.specs.deciding_lines.unit_lines.Without.{all_but}
@@ -17,7 +16,7 @@ least-requires c = record {
 
 pub denying-requires-clause-starts : goal.denying-requires-clause-starts
 denying-requires-clause-starts c =
-    subst (λ (gone : List Place). StartsAs (inputs_without (tried_of c.args.self.now).inputs gone) (Launched c.in_ok-kept.kept.found))
+    subst (λ (gone : List Place). StartsAs (inputs_without (tried_of c.args.self.now).inputs gone) (Ok c.in_ok-kept.kept.found))
     (sym (c.in_ok-gone.ensures.the_others ∙ ap (λ (kept : List Place). all_but kept c.args.lines.now) c.deref.ensures.value))
     c.in_ok-kept.ensures.serves
 

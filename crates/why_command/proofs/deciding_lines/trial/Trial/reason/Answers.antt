@@ -1,8 +1,7 @@
-use Rattle.std.proofs.Common.{List, subst, sym, ◌∙◌}
+use Rattle.std.proofs.Common.{List, Ok, subst, sym, ◌∙◌}
 use Rattle.std.specs.Prelude.{IfOk}
 use Rattle.asked_service.specs.dropin_merge.declared.unit_values.value.Place.{Place}
-use Rattle.asked_service.specs.started_units.Starting.{StartsAs}
-use Rattle.asked_service.specs.declared.unit_launch.launching.UnitLaunch.TheVariants.{Launched}
+use Rattle.asked_service.specs.launching.Starting.{StartsAs}
 use Rattle.why_command.specs.deciding_lines.Deciding.{IsReasonAt}
 use Rattle.why_command.specs.deciding_lines.Tried.{IsNotLaunched, inputs_without, tried_of}
 use Rattle.why_command.proofs.Needed.{reason_without_all}
@@ -10,7 +9,7 @@ use Rattle.why_command.proofs.deciding_lines.trial.Trial.reason.Goals as goal
 
 pub denying-requires-clause-starts : goal.denying-requires-clause-starts
 denying-requires-clause-starts c = subst (λ (gone : List Place). StartsAs (inputs_without (tried_of c.args.self.now).inputs gone)
-    (Launched c.in-Launched.service)) c.deref.ensures.value (rw c.in-Launched.is at c.in_ok-service.ensures.starts)
+    (Ok c.in-Launched.service)) c.deref.ensures.value (rw c.in-Launched.is at c.in_ok-service.ensures.starts)
 
 pub returns-in-Launched : goal.returns-in-Launched
 returns-in-Launched c = record {
