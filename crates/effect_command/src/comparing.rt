@@ -1,18 +1,22 @@
 //! The text for two launches.
 ghost use Rattle.std.specs.Prelude.{◌≡◌, Err, IfOk, Ok};
 ghost use Rattle.asked_service.specs.call_table.Table.{Table};
-ghost use Rattle.asked_service.specs.unit_inputs.declared.command_answers.exit_status.ExitStatus.TheVariants.{LaunchRefused};
+ghost use Rattle.asked_service.specs.unit_inputs.declared.command_answers.exit_status.ExitStatus.TheVariants.{Done, LaunchRefused};
 ghost use Rattle.asked_service.specs.site_table.Table.{Site};
 ghost use Rattle.asked_service.specs.launching.Refusals.{launch_line};
+ghost use Rattle.asked_service.specs.Asking.{IsAsked, world_in};
 ghost use Rattle.effect_command.specs.Lines.{with_line};
 ghost use Rattle.effect_command.specs.Prints.{TellsBoth};
 ghost use Rattle.asked_service.specs.unit_inputs.command_answers.ReadyTexts.{IsReadyWith};
+ghost use Rattle.effect_command.specs.Told.{told_text};
 ghost use Rattle.effect_command.specs.Stopping.{AreTogether, IsOver, StartTogether, StartsOver};
 
 use crate::lines::with_line;
 use crate::telling::effect_text;
 use asked_service::verdict_changes::changes_are_true;
-use asked_service::{CommandError, ExitStatus, LaunchError, Launched, ReadyText, ask, launch_line};
+use asked_service::{
+    Asked, CommandError, ExitStatus, LaunchError, Launched, ReadyText, ask, launch_line,
+};
 use std::alloc::Global;
 
 // The line of a launch of the unit that is refused.
@@ -36,6 +40,41 @@ fn tell_refused_with(alloc: Global, error: &LaunchError) -> Result<ReadyText, Co
     })
 }
 
+// What changes from one service to another, each with all questions about it.
+fn compare_asked(
+    alloc: Global,
+    first: &Asked<'_>,
+    second: &Asked<'_>,
+) -> Result<ReadyText, CommandError>
+    requires before { IsAsked first.now }
+    requires after { IsAsked second.now }
+    requires same_calls { (world_in first.now).calls ≡ (world_in second.now).calls }
+    requires same_site { (world_in first.now).site ≡ (world_in second.now).site }
+    ensures { IsReadyWith (λ status text. (status ≡ Done) × (text ≡ told_text first.now second.now)) result }
+{
+    Ok(ReadyText {
+        text: effect_text(alloc, first, second)?,
+        status: ExitStatus::Done,
+    })
+}
+
+// What changes to another service.
+fn compare_after(
+    alloc: Global,
+    first: &Asked<'_>,
+    after: Launched<'_>,
+) -> Result<ReadyText, CommandError>
+    requires before { IsAsked first.now }
+    requires together { AreTogether first.now.bounded.service after }
+    ensures { (table : Table) (site : Site) → IsOver table site first.now.bounded.service → IsOver table site after.entry
+        → IsReadyWith (TellsBoth table site (Ok first.now.bounded.service) (Ok after.entry)) result }
+{
+    // Why the changes are true.
+    changes_are_true();
+    let second = ask(alloc, after)?;
+    compare_asked(alloc, first, &second)
+}
+
 // What changes from one service to another.
 fn compare_services(
     alloc: Global,
@@ -43,16 +82,11 @@ fn compare_services(
     after: Launched<'_>,
 ) -> Result<ReadyText, CommandError>
     requires together { AreTogether before after }
-    ensures { (table : Table) (site : Site) → IsOver table site before.entry → IsOver table site after.entry → IsReadyWith (TellsBoth table site (Ok before.entry) (Ok after.entry)) result }
+    ensures { (table : Table) (site : Site) → IsOver table site before.entry → IsOver table site after.entry
+        → IsReadyWith (TellsBoth table site (Ok before.entry) (Ok after.entry)) result }
 {
-    // Why the changes are true.
-    changes_are_true();
     let first = ask(alloc, before)?;
-    let second = ask(alloc, after)?;
-    Ok(ReadyText {
-        text: effect_text(alloc, &first, &second)?,
-        status: ExitStatus::Done,
-    })
+    compare_after(alloc, &first, after)
 }
 
 // The same, where the unit with the drop-in may not be launched.

@@ -108,7 +108,7 @@ module _ (answers : AnswersAreTrue) (folders : BlindFoldersAreNamed) where
       → IsRun (laws_over told (judge_laws unit)) ended outside
   ran_prepared told unit outside ended one settled is cause finished = by finished.result finished.starts finished.reads_nothing finished.finishes where
     still : outside.shelf_after ≡ outside.shelf_before
-    still = cause.no_other_fault (λ e. cc)
+    still = cause.no_other_fault
 
     by : (result : Result Outcome CommandError) → Prepares (IsStarted one) (start_refusals unit (inputs_in one)) result
         → (IsErrOf result stop.ReadFault → ⊥) → Finishes status_of (text_of unit one) result ended outside.sink

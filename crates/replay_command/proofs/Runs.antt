@@ -99,7 +99,7 @@ module _ (told : Option Files) (unit path : List ℕ) (prepared : Prepared) (can
       → FinishesStarted unit prepared ended outside.sink → IsRun (laws_over told (replay_laws unit path)) ended outside
   ran_prepared outside ended cause finished = by finished.result finished.starts finished.reads_nothing finished.finishes where
     still : outside.shelf_after ≡ outside.shelf_before
-    still = cause.no_other_fault (λ e. cc)
+    still = cause.no_other_fault
 
     by : (result : Result Replay CommandError) → Prepares (IsStarted prepared) (start_refusals unit (inputs_in prepared.unit)) result
         → (IsErrOf result stop.ReadFault → ⊥) → Finishes status_of text_of result ended outside.sink

@@ -20,12 +20,13 @@ use Rattle.asked_service.specs.unit_inputs.Inputs.{Inputs}
 use Rattle.asked_service.specs.declared.launching.refusal.Refusal.{Refusal}
 use Rattle.asked_service.specs.declared.launching.refusal.Refusal.TheVariants.{Memory}
 use Rattle.asked_service.specs.launching.Launched as launching
-use Rattle.asked_service.specs.launching.Launched.{IsLaunchedUnit}
 use Rattle.asked_service.specs.launching.Refusals.{refusal_line}
 use Rattle.why_command.specs.deciding_lines.unit_lines.Without.{without}
 use Rattle.asked_service.specs.dropin_merge.declared.unit_values.value.Place.{Place}
 use Rattle.why_command.specs.deciding_lines.Tried.{IsDeniedWithout, IsNotLaunched, IsOpenWithout, IsSaid, TellsOpen, Tried, denied, inputs_without}
-use Rattle.why_command.specs.deciding_lines.Tried.{is_refused}
+use Rattle.why_command.specs.deciding_lines.Tried.{IsRefusedWith, IsStarted, is_refused}
+use Rattle.why_command.specs.declared.deciding_lines.starting.Started.{Started}
+use Rattle.why_command.specs.declared.deciding_lines.starting.Started.TheVariants as started
 
 -- a verdict by the rule says so
 said_exactly : (world : World) (question : Question) (answer : Bool) → IsExact world question
@@ -68,20 +69,21 @@ module _ (inputs : Inputs) (service : Service) (starts : StartsAs inputs (Ok ser
       subst (λ (table : calls.Table). Contains (asked.questions table service.world.site) question) (sym own_calls)
       (subst (λ (site : Site). Contains (asked.questions inputs.calls site) question) (sym own_site) is)
 
+-- what a unit is refused for
+pub refused_as : (name : List ℕ) (inputs : Inputs) (refusal : Refusal) (result : Result Started AllocError)
+    → launching.IsNotLaunched inputs.unit inputs.calls inputs.site refusal
+    → IfOk result (λ told. (refusal ≢ Memory) × IsRefusedWith (refusal_line name refusal) told) → IfOk result (IsStarted name inputs)
+refused_as name inputs refusal (Err none) refused told = tt
+refused_as name inputs refusal (Ok (started.Launched service)) refused told = absurd told.1
+refused_as name inputs refusal (Ok (started.Refused line)) refused told =
+    subst (IsNotLaunched name inputs) (sym told.1) (is_refused refusal told.0 refused)
+
 -- what a unit starts as without some of its lines
-module _ (name : List ℕ) (inputs : Inputs) (places : List Place) (less : Resolved) (is : less ≡ without places inputs.unit) where
-  as_without : (P : Inputs → Type 0) → P (given less inputs.calls inputs.site) → P (inputs_without inputs places)
-  as_without P holds = subst (λ (own : Resolved). P (given own inputs.calls inputs.site)) is holds
-
-  pub starts_without : (service : Service) → IsLaunchedUnit less inputs.calls inputs.site service
-      → StartsAs (inputs_without inputs places) (Ok service)
-  starts_without service launched = as_without (λ own. StartsAs own (Ok service)) launched
-
-  pub refused_without : (refusal : Refusal) → refusal ≢ Memory → launching.IsNotLaunched less inputs.calls inputs.site refusal
-      → (line : List ℕ) → line ≡ refusal_line name refusal → IsNotLaunched name (inputs_without inputs places) line
-  refused_without refusal told refused line says =
-      subst (IsNotLaunched name (inputs_without inputs places)) (sym says)
-      (is_refused refusal told (as_without (λ own. launching.IsNotLaunched own.unit own.calls own.site refusal) refused))
+pub as_without : (name : List ℕ) (inputs : Inputs) (places : List Place) (less : Resolved) → less ≡ without places inputs.unit
+    → (result : Result Started AllocError) → IfOk result (IsStarted name (given less inputs.calls inputs.site))
+    → IfOk result (IsStarted name (inputs_without inputs places))
+as_without name inputs places less is result starts =
+    subst (λ (own : Resolved). IfOk result (IsStarted name (given own inputs.calls inputs.site))) is starts
 
 -- what is told of a launch without them
 module _ (tried : Tried) (places : List Place) where

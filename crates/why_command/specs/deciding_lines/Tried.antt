@@ -1,5 +1,5 @@
 -- A unit without some of its assignments in force, asked one question.
-use Rattle.std.specs.Prelude.{◌≢◌, ℕ, Bool, true, false, List, Ok, Contains}
+use Rattle.std.specs.Prelude.{◌≡◌, ◌≢◌, ℕ, Bool, true, false, List, Ok, Contains}
 use Rattle.asked_service.specs.kernel_laws.Denied.{IsDenied}
 use Rattle.asked_service.specs.kernel_laws.Questions.{questions}
 use Rattle.asked_service.specs.kernel_model.World.{World}
@@ -44,6 +44,11 @@ pub data IsNotLaunched (name : List ℕ) (inputs : Inputs) : List ℕ → Type 0
 abbrev pub IsStarted : List ℕ → Inputs → Started → Type 0
 IsStarted name inputs (started.Launched service) = StartsAs inputs (Ok service)
 IsStarted name inputs (started.Refused line) = IsNotLaunched name inputs line.items
+
+-- it is refused, with this line
+abbrev pub IsRefusedWith : List ℕ → Started → Type 0
+IsRefusedWith line (started.Launched service) = ⊥
+IsRefusedWith line (started.Refused told) = told.items ≡ line
 
 -- the unit has settings, a plan of its mounts and a launch, and some list of calls shows the question
 pub record IsOpenFor (inputs : Inputs) (question : Question) : Type 0 where

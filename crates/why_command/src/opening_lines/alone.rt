@@ -1,5 +1,6 @@
 //! What a line of a unit denies by itself.
 ghost use Rattle.std.specs.Prelude.{◌≡◌, ◌∷◌, [], IfOk, Ok};
+ghost use Rattle.asked_service.specs.Asked.{IsBounded};
 ghost use Rattle.asked_service.specs.launching.Starting.{StartsAs};
 ghost use Rattle.why_command.specs.deciding_lines.Tried.{inputs_without};
 ghost use Rattle.why_command.specs.opening_lines.Judging.{IsAloneOf, IsJudged, inputs_in, shut_in};
@@ -7,7 +8,7 @@ ghost use Rattle.why_command.specs.opening_lines.Judging.{IsAloneOf, IsJudged, i
 use crate::deciding_lines::{Started, start_without};
 use crate::opening_lines::judged::Judged;
 use crate::opening_lines::opened::{opened, shut};
-use asked_service::{Launched, Place, Question, bound, truths};
+use asked_service::{Bounded, Launched, Place, Question, bound, truths};
 use std::alloc::{AllocError, Global};
 
 /// What an assignment in force denies by itself.
@@ -30,6 +31,25 @@ impl Judged<'_> {
     }
 
     // What the line at a place denies, by the service of the unit without it. Only questions that are denied with it are asked.
+    fn opens_by(
+        &self,
+        alloc: Global,
+        place: Place,
+        after: &Bounded<'_>,
+        shut: &[Question],
+    ) -> Result<Alone, AllocError>
+        requires judged { IsJudged self.now }
+        requires shut { shut.now ≡ shut_in self.now }
+        requires bounded { IsBounded after.now }
+        requires starts { StartsAs (inputs_without (inputs_in self.now) (place ∷ [])) (Ok after.now.service) }
+        ensures { IfOk result (IsAloneOf self.now place) }
+    {
+        // The law that the verdicts are exact.
+        truths();
+        Ok(Alone::Opens(opened(alloc, after, shut)?))
+    }
+
+    // The same, where the service has no bounds yet.
     fn opens(
         &self,
         alloc: Global,
@@ -42,11 +62,8 @@ impl Judged<'_> {
         requires starts { StartsAs (inputs_without (inputs_in self.now) (place ∷ [])) (Ok service) }
         ensures { IfOk result (IsAloneOf self.now place) }
     {
-        // The law that the verdicts are exact.
-        truths();
         let after = bound(alloc, service)?;
-        let found = opened(alloc, &after, shut)?;
-        Ok(Alone::Opens(found))
+        self.opens_by(alloc, place, &after, shut)
     }
 
     /// What the line at a place denies by itself, of the questions that are denied of the unit.

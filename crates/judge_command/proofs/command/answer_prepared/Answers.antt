@@ -18,8 +18,8 @@ returns-in-Ok g c = record {
   };
 }
 
-pub returns : goal.returns
-returns g c = record {
+pub returns-in-Err : goal.returns-in-Err
+returns-in-Err g c = record {
   finishes = record {
     result = Err c.in-Err.stop;
     starts = c.in-Err.ensures.starts;

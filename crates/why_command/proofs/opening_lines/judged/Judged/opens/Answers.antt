@@ -1,38 +1,20 @@
-use Rattle.std.proofs.Common.{List, [], ◌∷◌, ap, refl, subst, sym, ◌∙◌}
-use Rattle.std.specs.Prelude.{Contains}
-use Rattle.std.specs.List.{All}
+use Rattle.std.proofs.Common.{Ok, [], ◌∷◌, subst, sym}
+use Rattle.asked_service.specs.launcher.declared.launched.Launched.{Launched as Service}
+use Rattle.asked_service.specs.launching.Starting.{StartsAs}
 use Rattle.why_command.proofs.Asked.{served}
 use Rattle.why_command.specs.deciding_lines.Tried.{inputs_without}
-use Rattle.asked_service.specs.Asking.{world_in}
-use Rattle.asked_service.specs.kernel_laws.Launched.{launch_of}
-use Rattle.asked_service.specs.kernel_laws.declared.question_types.question.Question.{Question}
-use Rattle.why_command.specs.opening_lines.ByRule.{open_among}
 use Rattle.why_command.specs.opening_lines.Judging.{inputs_in}
-use Rattle.why_command.proofs.Opening.{open_of_shut, shut_listed}
-use Rattle.why_command.proofs.Trying.{all_after, opens_it}
 use Rattle.why_command.proofs.opening_lines.judged.Judged.opens.Goals as goal
 
 pub bound-requires : goal.bound-requires
 bound-requires c = record
     { served = served (inputs_without (inputs_in c.args.self.now) (c.args.place ∷ [])) c.args.service c.requires.starts }
 
-pub opened-requires : goal.opened-requires
-opened-requires c =
-    let asked = c.args.self.now.asked in
-    record {
-      after = c.in_ok-after.ensures.bounds.1;
-      listed = subst (λ (own : List Question). All (Contains own) c.args.shut.now)
-          (all_after c.args.self.now c.requires.judged c.args.place c.args.service c.requires.starts c.in_ok-after.after
-          c.in_ok-after.ensures.bounds.0 asked.questions.items refl)
-          (subst (λ (own : List Question). All (Contains asked.questions.items) own) (sym c.requires.shut)
-          (shut_listed (launch_of (world_in asked)) asked.questions.items));
-    }
-
-pub returns : goal.returns
-returns c =
-    let asked = c.args.self.now.asked in
-    let after = launch_of c.in_ok-after.after.service.world in
-    opens_it c.args.self.now c.requires.judged c.args.place c.args.service c.requires.starts c.in_ok-after.after
-    c.in_ok-after.ensures.bounds.0 asked.questions.items refl c.truths.ensures.answers c.in_ok-found.found
-    (c.in_ok-found.ensures.by_the_rule ∙ ap (open_among after) c.requires.shut
-    ∙ open_of_shut (launch_of (world_in asked)) after asked.questions.items)
+pub opens_by-requires : goal.opens_by-requires
+opens_by-requires c = record {
+  judged = c.requires.judged;
+  shut = c.requires.shut;
+  bounded = c.in_ok-after.ensures.bounds.1;
+  starts = subst (λ (own : Service). StartsAs (inputs_without (inputs_in c.args.self.now) (c.args.place ∷ [])) (Ok own))
+      (sym c.in_ok-after.ensures.bounds.0) c.requires.starts;
+}
