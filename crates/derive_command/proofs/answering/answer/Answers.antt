@@ -15,16 +15,16 @@ returns-in-Ok-clause-reads_nothing c =
     ready_reads_nothing (λ status text. (status ≡ Done) × (text ≡ drop_in_text c.args.calls.now c.list.result.now)) c.allow_names.result
     c.allow_names.ensures
 
-pub returns-in-Seccomp-clause-answers : goal.returns-in-Seccomp-clause-answers
-returns-in-Seccomp-clause-answers c =
+pub returns-in-Err-Seccomp-clause-answers : goal.returns-in-Err-Seccomp-clause-answers
+returns-in-Err-Seccomp-clause-answers c =
     seccomp_answers c.args.name.now c.args.path.now c.args.unit.now c.args.calls.now c.args.site.now c.args.script.now
-    c.in-Seccomp.number c.seccomp_line.result c.refuse.result c.in-Seccomp.ensures.derives c.refuse.ensures.tells_the_line
+    c.in-Err-Seccomp.number c.seccomp_line.result c.refuse.result (rw c.in-Err-Seccomp.field-0-is at c.in-Err-Seccomp.ensures.derives) c.refuse.ensures.tells_the_line
     c.seccomp_line.ensures.tells_the_call
 
-pub returns-in-Seccomp-clause-reads_nothing : goal.returns-in-Seccomp-clause-reads_nothing
-returns-in-Seccomp-clause-reads_nothing c = line_reads_nothing c.seccomp_line.result c.refuse.result c.refuse.ensures.tells_the_line
+pub returns-in-Err-Seccomp-clause-reads_nothing : goal.returns-in-Err-Seccomp-clause-reads_nothing
+returns-in-Err-Seccomp-clause-reads_nothing c = line_reads_nothing c.seccomp_line.result c.refuse.result c.refuse.ensures.tells_the_line
 
-pub returns-in-NotLaunched-clause-answers : goal.returns-in-NotLaunched-clause-answers
-returns-in-NotLaunched-clause-answers c =
+pub returns-in-Err-NotLaunched-clause-answers : goal.returns-in-Err-NotLaunched-clause-answers
+returns-in-Err-NotLaunched-clause-answers c =
     refusal_answers c.args.name.now c.args.path.now c.args.unit.now c.args.calls.now c.args.site.now c.args.script.now
-    c.in-NotLaunched.refusal c.tell_refusal.result c.in-NotLaunched.ensures.derives c.tell_refusal.ensures.tells
+    c.in-Err-NotLaunched.refusal c.tell_refusal.result (rw c.in-Err-NotLaunched.field-0-is at c.in-Err-NotLaunched.ensures.derives) c.tell_refusal.ensures.tells
