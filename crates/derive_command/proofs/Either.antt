@@ -11,14 +11,14 @@ use Rattle.asked_service.proofs.OfLauncher.Alike.{calls_kept, fits, own_step, st
 use Rattle.derive_command.specs.trace_profile.allow_laws.Either.{EitherReplies, PushNone}
 use Rattle.derive_command.proofs.Same.{as_one, same_reply}
 
-heads : (a b : Reply) (xs ys : List Reply) → a ∷ xs ≡ b ∷ ys → a ≡ b
+pub heads : (a b : Reply) (xs ys : List Reply) → a ∷ xs ≡ b ∷ ys → a ≡ b
 heads a b xs ys e = cc
 
-tails : (a b : Reply) (xs ys : List Reply) → a ∷ xs ≡ b ∷ ys → xs ≡ ys
+pub tails : (a b : Reply) (xs ys : List Reply) → a ∷ xs ≡ b ∷ ys → xs ≡ ys
 tails a b xs ys e = cc
 
 -- the replies, said of the world without the programs
-own_replies : (programs : List (List Insn)) (world : World) (call : Call) (calls : List Call)
+pub own_replies : (programs : List (List Insn)) (world : World) (call : Call) (calls : List Call)
     → replies (above programs world) (call ∷ calls) ≡ (own_step programs world call).0 ∷ replies
     (above programs (own_step programs world call).1) calls
 own_replies programs world call calls = ap (λ (out : Reply × World). out.0 ∷ replies out.1 calls) (step_above programs world call)

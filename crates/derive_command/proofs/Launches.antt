@@ -18,7 +18,7 @@ use Rattle.asked_service.specs.call_table.Table as calls
 use Rattle.asked_service.specs.site_table.Table.{Site, row_at}
 use Rattle.asked_service.specs.kern_creds.declared.creds.Creds.{Creds}
 use Rattle.asked_service.specs.kern_mounts.Finds.{finds}
-use Rattle.asked_service.specs.kern_mounts.Mounts.{Mounts as MountList}
+use Rattle.asked_service.specs.kernel_model.declared.mount_namespace.MountNamespace.{MountNamespace}
 use Rattle.asked_service.specs.kern_mounts.Split.{Table}
 use Rattle.asked_service.specs.kernel_model.declared.kernel_calls.call.Call.{Call}
 use Rattle.asked_service.specs.kernel_model.declared.kernel_calls.payload.Payload.TheVariants.{Code}
@@ -112,9 +112,9 @@ module _ (table : calls.Table) (site : Site) (whole : IsWhole table) (arch : Has
   calls' : HasLaunchCalls table.calls
   calls' = launch_calls table whole
 
-  module _ (creds : Creds) (namespace : ℕ) (tables : List MountList) where
+  module _ (creds : Creds) (namespace : ℕ) (spaces : List MountNamespace) where
     abbrev with_stack : List (List Insn) → World
-    with_stack stack = solo table site creds stack namespace tables
+    with_stack stack = solo table site creds stack namespace spaces
 
     abbrev call_of : List ℕ → Call
     call_of bytes = first_call table.calls (codes "seccomp") (1 ∷ 0 ∷ 0 ∷ 0 ∷ 0 ∷ 0 ∷ []) (Code bytes)
@@ -372,7 +372,7 @@ either_launches table site wanted plan programs of_one of_other both one other l
     let r : 0 + room_of both ≤ max_insns_per_path = let h = installed.room in omega arith in
     let r1 : 0 + room_of one ≤ max_insns_per_path = let h = first.installed.room in omega arith in
     let r2 : 0 + room_of other ≤ max_insns_per_path = let h = second.installed.room in omega arith in
-    let ends = pushing table site whole arch ready.creds ready.namespace ready.tables (last_steps table.calls wanted)
+    let ends = pushing table site whole arch ready.creds ready.namespace ready.spaces (last_steps table.calls wanted)
     (last_other table site whole arch wanted) programs of_one of_other both one other [] [] [] last last' installed.read first.installed.read second.installed.read long long2
     (λ input fit. then_by both one other input (like input fit)) r r1 r2 l m in
     let all = leads_join (start_world table site) (before table site wanted plan) (after table site wanted plan programs) parts1.mid (above both ends.base) parts1.before

@@ -16,7 +16,10 @@ pub mod ExtendedUnit
 pub mod AsEither
 pub mod PushesNone
 pub mod SameLists
+pub mod NonePushed
+pub mod Foretold
 pub mod OneList
+pub mod HeardAlike
 pub mod CallsOfLines
 pub mod PlainTables
 pub mod Whole

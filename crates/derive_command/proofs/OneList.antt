@@ -83,7 +83,7 @@ use Rattle.derive_command.proofs.SameButCalls as but
 use Rattle.derive_command.proofs.SameLists.{at_member, has, own_has, same_lists}
 
 module _ (unit : Resolved) (table : calls.Table) (site : Site) (sound : IsSite site) (whole : IsWhole table) (arch : HasWordArchs table) (plain : HasPlainNames table) where
-  base : FilterSettings
+  pub base : FilterSettings
   base = unit_filters unit table
 
   -- ---- the unit with one list of names
@@ -94,7 +94,7 @@ module _ (unit : Resolved) (table : calls.Table) (site : Site) (sound : IsSite s
     abbrev longer : Resolved
     longer = extended unit table names
 
-    mentions : List Mention
+    pub mentions : List Mention
     mentions = (said_list table plain.plain unit.systemd names).mentions
 
     filters : unit_filters longer table ≡ with_list table base mentions
@@ -156,7 +156,7 @@ module _ (unit : Resolved) (table : calls.Table) (site : Site) (sound : IsSite s
         (missing_group table settings) ∷ paths_refusal unit ∷ [])) filters
 
     -- programs that match the filters of its settings
-    has_programs : (settings : Settings) → AreSettings longer table site settings → (codes : List (List Insn))
+    pub has_programs : (settings : Settings) → AreSettings longer table site settings → (codes : List (List Insn))
         → AreMatching settings.filters.items codes → HasPrograms table base mentions codes
     has_programs settings fit codes matching =
         let own = fit.filters_as_wanted in
@@ -169,7 +169,7 @@ module _ (unit : Resolved) (table : calls.Table) (site : Site) (sound : IsSite s
           matching = matching;
         }
 
-    installed_by : (settings : Settings) → AreSettings longer table site settings → (programs : List (List ℕ)) (codes : List (List Insn))
+    pub installed_by : (settings : Settings) → AreSettings longer table site settings → (programs : List (List ℕ)) (codes : List (List Insn))
         → AreRead programs codes → AreMatching settings.filters.items codes → AreInstalled programs codes
     installed_by settings fit programs codes read matching =
         let few = room settings.filters.items codes matching in
@@ -255,7 +255,7 @@ module _ (unit : Resolved) (table : calls.Table) (site : Site) (sound : IsSite s
     same_plan one other has has' =
         ok_plan one other (sym has ∙ ap (planned (host_of site)) same_paths ∙ has')
 
-    same_launch : KeepAlike unit table names others → (settings settings' : Settings) (one other : Table) → AreSettings (extended unit table names) table site settings
+    pub same_launch : KeepAlike unit table names others → (settings settings' : Settings) (one other : Table) → AreSettings (extended unit table names) table site settings
         → AreSettings (extended unit table others) table site settings'
         → Plans (host_of site) (unit_mentions (extended unit table names) site) (Ok one)
         → Plans (host_of site) (unit_mentions (extended unit table others) site) (Ok other) → (programs : List (List ℕ))
@@ -370,7 +370,7 @@ module _ (unit : Resolved) (table : calls.Table) (site : Site) (sound : IsSite s
       one name rest = ap (λ b. b && rest) (on_same name)
 
   -- only systemd 257 keeps any
-  alike_by : (names others : List ℕ) → (is_257 unit.systemd ≡ true → KeepAlike unit table names others) → KeepAlike unit table names others
+  pub alike_by : (names others : List ℕ) → (is_257 unit.systemd ≡ true → KeepAlike unit table names others) → KeepAlike unit table names others
   alike_by names others given = by (is_257 unit.systemd) refl
     where
       rest : List ℕ → ℕ → Bool

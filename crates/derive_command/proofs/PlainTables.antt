@@ -1,11 +1,12 @@
 -- The names of a table that was read are plain, and any of them, behind `@default`, have no more bytes than its text.
-use Rattle.std.proofs.Common.{◌≡◌, ℕ, zero, ◌+◌, ◌<◌, ◌≤◌, suc, Bool, true, false, cond, Option, Some, None, Ok, Err, List, [], ◌∷◌, drop}
-use Rattle.std.proofs.Common.{length, length-append, flat_map, refl, sym, ap, ◌∙◌, ◌++◌, subst, arith}
+use Rattle.std.proofs.Common.{◌≡◌, ℕ, zero, ◌+◌, ◌<◌, ◌≤◌, suc, Bool, true, false, cond, Option, Some, None, Ok, Err, List, [], ◌∷◌, drop, take}
+use Rattle.std.proofs.Common.{add-one, length, length-append, flat_map, refl, sym, ap, ◌∙◌, ◌++◌, subst, arith}
 use Rattle.std.specs.Prelude.{◌&&◌, ◌==◌, codes, slice_get, slice_index, if◌then◌else◌}
 use Rattle.std.specs.List.{AllByRecursion, list_all}
 use Rattle.std.specs.List.Sorted.{IsStrictlyIncreasing}
 use Rattle.std.specs.Option.{option_map, option_map_or}
 use Rattle.std.specs.Str.Parse.{digits_value}
+use Rattle.std.proofs.lemmas.Bool.{and_parts}
 use Rattle.std.proofs.lemmas.Bool.Decides.{nat_tests}
 use Rattle.std.proofs.lemmas.List.{map-append}
 use Rattle.std.proofs.lemmas.List.Elements.{recursion_from_All}
@@ -192,14 +193,80 @@ module _ (table : Table) where
       names_behind 0 place names (omega arith)
       (recursion_from_All (λ place. is_first_line table place ≡ true) (place ∷ names) are.first_lines) are.in_order
 
-fitting_is_plain : (bytes : List ℕ) (table : Table) → length bytes ≤ 1048576 → FitsTable (suc (length bytes)) table → HasPlainNames table
-fitting_is_plain bytes table le fits = record {
-  plain = fits.0;
+-- a table whose names are plain and have room
+pub plain_by_room : (table : Table) → list_all (λ line. is_name line.name) (every_call table) ≡ true
+    → room_of_names (every_call table) + 8 ≤ 1048576 → HasPlainNames table
+plain_by_room table plain le = record {
+  plain = plain;
   short = λ names are.
       let long = length-append (codes "@default") (flat_map (λ place. 32 ∷ name_at table place) names) in
       let fewer = names_fit table names are in
-      omega (arith, le, fits.1, long, fewer);
+      omega (arith, le, long, fewer);
 }
+
+-- the names of these lines are plain, and with a space before each they leave this room in one value, behind `@default`
+pub record ArePlain (lines : List CallLine) (room : ℕ) : Type 0 where
+  pub plain : list_all (λ line. is_name line.name) lines ≡ true
+  pub fits : room_of_names lines + room ≡ 1048568
+
+-- so they are with one line more
+pub one_more_plain : (lines : List CallLine) (i room left : ℕ) → i < length lines → ArePlain (take i lines) room
+    → is_name (option_map_or (λ (line : CallLine). line.name) (slice_get lines i) []) ≡ true
+    → left + (length (option_map_or (λ (line : CallLine). line.name) (slice_get lines i) []) + 1) ≡ room
+    → ArePlain (take (i + 1) lines) left
+one_more_plain lines i room left lt before is less = record {
+  plain = subst (λ n. list_all (λ (line : CallLine). is_name line.name) (take n lines) ≡ true) (sym (add-one i))
+      (all_more lines i lt before.plain is);
+  fits = let same = ap (λ n. room_of_names (take n lines)) (add-one i) in
+      let more = room_more lines i lt in
+      let had = before.fits in
+      omega (arith, same, more, had, less);
+}
+  where
+    all_more : (lines : List CallLine) (i : ℕ) → i < length lines → list_all (λ (line : CallLine). is_name line.name) (take i lines) ≡ true
+        → is_name (option_map_or (λ (line : CallLine). line.name) (slice_get lines i) []) ≡ true
+        → list_all (λ (line : CallLine). is_name line.name) (take (suc i) lines) ≡ true
+    all_more [] i lt all is = absurd (omega (arith, lt))
+    all_more (line ∷ lines) zero lt all is = ap (λ b. b && true) is
+    all_more (line ∷ lines) (suc i) lt all is =
+        let parts = and_parts (is_name line.name) (list_all (λ (own : CallLine). is_name own.name) (take i lines)) all in
+        ap (λ b. b && list_all (λ (own : CallLine). is_name own.name) (take (suc i) lines)) parts.0
+        ∙ all_more lines i (omega (arith, lt)) parts.1 is
+
+    room_more : (lines : List CallLine) (i : ℕ) → i < length lines
+        → room_of_names (take (suc i) lines) ≡ room_of_names (take i lines)
+        + (length (option_map_or (λ (line : CallLine). line.name) (slice_get lines i) []) + 1)
+    room_more [] i lt = absurd (omega (arith, lt))
+    room_more (line ∷ lines) zero lt = omega arith
+    room_more (line ∷ lines) (suc i) lt =
+        let rest = room_more lines i (omega (arith, lt)) in
+        omega (arith, rest)
+
+-- so they are with the name at a place, which has been read
+pub one_name_more : (table : Table) (i room left : ℕ) (name : List ℕ) → i < length (every_call table)
+    → ArePlain (take i (every_call table)) room → name ≡ name_at table i → (is_name name ≡ true) × (left + (length name + 1) ≡ room)
+    → ArePlain (take (i + 1) (every_call table)) left
+one_name_more table i room left name lt before here told =
+    one_more_plain (every_call table) i room left lt before (ap is_name (sym here) ∙ told.0)
+    (ap (λ (own : List ℕ). left + (length own + 1)) (sym here) ∙ told.1)
+
+-- all lines of a table
+take_whole : {X : Type 0} (xs : List X) → take (length xs) xs ≡ xs
+take_whole [] = refl
+take_whole (x ∷ xs) = ap (λ ys. x ∷ ys) (take_whole xs)
+
+pub all_are_plain : (table : Table) (n room : ℕ) → n ≡ length (every_call table) → ArePlain (take n (every_call table)) room
+    → HasPlainNames table
+all_are_plain table n room all are =
+    let lines : List CallLine = take n (every_call table) in
+    let is : lines ≡ every_call table = ap (λ k. take k (every_call table)) all ∙ take_whole (every_call table) in
+    let plain : list_all (λ line. is_name line.name) (every_call table) ≡ true = ap (list_all (λ (line : CallLine). is_name line.name)) (sym is) ∙ are.plain in
+    let same : room_of_names (every_call table) ≡ room_of_names lines = ap room_of_names (sym is) in
+    let had = are.fits in
+    plain_by_room table plain (omega (arith, same, had))
+
+fitting_is_plain : (bytes : List ℕ) (table : Table) → length bytes ≤ 1048576 → FitsTable (suc (length bytes)) table → HasPlainNames table
+fitting_is_plain bytes table le fits = plain_by_room table fits.0 (omega (arith, le, fits.1))
 
 -- the table of a text of at most 1 MiB, whatever kernel reads the names
 pub table_is_plain : (bytes : List ℕ) (table : Table) (kernel : Kernel) → length bytes ≤ 1048576 → table_of bytes ≡ Ok table

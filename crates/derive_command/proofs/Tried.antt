@@ -15,9 +15,11 @@ use Rattle.asked_service.specs.launcher.declared.launched.Launched.{Launched as 
 use Rattle.asked_service.specs.site_table.Table.{Site}
 use Rattle.derive_command.specs.trace_profile.Derived.{IsDerived, IsLeast, Serves, Tells, Tried, not_launched, other_reply, tried_with}
 use Rattle.derive_command.specs.trace_profile.Extended.{every_name, extended, open_unit}
+use Rattle.derive_command.specs.declared.trace_profile.fates.Fate.{Fate}
+use Rattle.derive_command.specs.trace_profile.Foretelling.{fates}
 use Rattle.derive_command.specs.trace_profile.Names.{AreNames, is_marked, without}
 use Rattle.derive_command.specs.trace_profile.Replies.{Compares}
-use Rattle.derive_command.specs.trace_profile.Searching.{AreServing, LeavesOut}
+use Rattle.derive_command.specs.trace_profile.Searching.{AreServing, IsHeardOf, LaunchedBy, LeavesOut}
 use Rattle.derive_command.proofs.Lists.{every_are_names, some_are_names}
 
 -- what holds of an error holds of a result that passes it on
@@ -27,6 +29,15 @@ at_error P (Ok made) error is holds = absurd is
 at_error P (Err own) error is holds = subst (λ one. P (Err one)) (sym is) holds
 
 module _ (tried : Tried) (names : List ℕ) (unit : Resolved) (is : unit ≡ extended tried.unit tried.table names) where
+  -- the names launch the service
+  pub launched_by : (service : Service) → AreNames tried.table names → IsLaunchedUnit unit tried.table tried.site service
+      → LaunchedBy tried service
+  launched_by service are launched = record {
+    names = names;
+    are_names = are;
+    launched = subst (λ own. IsLaunchedUnit own tried.table tried.site service) is launched;
+  }
+
   -- the unit is launched, and its replies are these or others
   pub tells_replies : (service : Service) (result : Result Bool AllocError) → IsLaunchedUnit unit tried.table tried.site service
       → IfOk result (Compares (replies service.world tried.script) tried.said) → IfOk result (Tells tried names)
@@ -58,6 +69,12 @@ module _ (tried : Tried) (names lent fewer lent_fewer : List ℕ) (name : ℕ) (
   pub keeps_it : told ≡ false → LeavesOut tried names name names
   keeps_it does = inr (refl, told_of tried lent_fewer (without name names) told false (lends_fewer ∙ is ∙ ap (without name) lends) tells does)
 
+-- some names of a list are names of the table
+pub lent_are_names : (table : calls.Table) (p : ℕ → Bool) (names lent some lent_some : List ℕ) → AreNames table names → lent ≡ names
+    → some ≡ filter p lent → lent_some ≡ some → AreNames table lent_some
+lent_are_names table p names lent some lent_some are lends is lends_some =
+    subst (AreNames table) (sym (lends_some ∙ is ∙ ap (filter p) lends)) (some_are_names table p names are)
+
 -- the names that are marked serve
 pub marked_serve : (tried : Tried) (marks : List Bool) (every lent used lent_used : List ℕ) (told : Bool) → AreServing tried every
     → lent ≡ every → used ≡ filter (is_marked marks) lent → lent_used ≡ used → Tells tried lent_used told → told ≡ true
@@ -87,6 +104,15 @@ module _ (unit : Resolved) (table : calls.Table) (site : Site) (script : List Ca
         launched = subst (λ these. IsLaunchedUnit (extended unit table these) table site serves.service) lends serves.launched;
         replies = ap (replies serves.service.world) lends_script ∙ sym says_so;
       };
+    }
+
+    -- and so their service is heard
+    pub every_heard : (done lent_done : List Fate) → done ≡ fates serves.service.world first → lent_done ≡ done
+        → IsHeardOf (tried_with unit table site lent lent_said) every lent_done
+    unfolding every_serve
+    every_heard done lent_done are lends_done = record {
+      serves = every_serve.serves;
+      of_its_service = lends_done ∙ are ∙ ap (fates serves.service.world) (lends_first ∙ sym lends_script);
     }
 
     -- the least list is derived

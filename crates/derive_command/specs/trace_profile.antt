@@ -6,6 +6,7 @@ pub mod Used
 pub mod PlainNames
 pub mod Derived
 pub mod Only
+pub mod Foretelling
 pub mod Searching
 pub mod Finding
 pub mod allow_laws

@@ -9,8 +9,11 @@
 pub mod allow_laws;
 mod derived;
 mod extending;
+mod fates;
 mod finding;
+mod foretelling;
 mod names;
+mod plain_names;
 mod replies;
 mod scripts;
 mod searching;

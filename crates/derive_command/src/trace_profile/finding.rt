@@ -1,30 +1,33 @@
 //! The least list, derived.
 
 ghost use Rattle.asked_service.specs.launching.Launched.{IsNotLaunched};
-ghost use Rattle.derive_command.specs.trace_profile.Derived.{Derives, Serves, tried_with};
+ghost use Rattle.asked_service.specs.unit_names.Versions.{is_257};
+ghost use Rattle.derive_command.specs.trace_profile.Derived.{Derives, tried_with};
 ghost use Rattle.derive_command.specs.trace_profile.Extended.{extended};
 ghost use Rattle.derive_command.specs.trace_profile.Finding.{DerivesOpen};
-ghost use Rattle.std.specs.Prelude.{◌≡◌, ℕ, All, IfOk, IfErr, List, None, length};
+ghost use Rattle.std.specs.Prelude.{◌≡◌, ℕ, All, IfOk, IfErr, IsTrue, List, None, length};
 ghost use Rattle.derive_command.specs.trace_profile.Derived.{IsLeast, IsOnlyOne};
 ghost use Rattle.derive_command.specs.trace_profile.PlainNames.{IsReadFrom};
-ghost use Rattle.derive_command.specs.trace_profile.Searching.{AreServing, tried_of};
+ghost use Rattle.derive_command.specs.trace_profile.Scripts.{first_seccomp};
+ghost use Rattle.derive_command.specs.trace_profile.Searching.{AreServing, DifferInPrograms, IsHeard, IsHeardOf, tried_of};
 ghost use Rattle.asked_service.specs.kernel_model.kernel_calls.Calls.{IsCall};
 
 use crate::trace_profile::derived::{DeriveError, Derived, Names};
 use crate::trace_profile::extending::extended;
 use crate::trace_profile::names::{every_name, marked};
-use crate::trace_profile::replies::replies_of;
+use crate::trace_profile::plain_names::has_plain_names;
+use crate::trace_profile::replies::{Heard, hear};
 use crate::trace_profile::scripts::first_seccomp;
 use crate::trace_profile::searching::Trial;
 use crate::trace_profile::used::used_marks;
 use asked_service::{
-    Call, CallTable, Refusal, Reply, Resolved, Script, SiteTable, fits, launch_unit,
+    Call, CallTable, Refusal, Resolved, Script, SiteTable, Version, fits, launch_unit,
 };
 use std::alloc::{AllocError, Global};
 
 // Names that serve: those that the script uses, which as a rule do, or else all.
 fn begin(alloc: Global, trial: &Trial, every: Vec<u32>) -> Result<Vec<u32>, AllocError>
-    requires one_each { length trial.now.said.now ≡ length trial.now.script.now }
+    requires heard { IsHeard trial.now }
     requires serving { AreServing (tried_of trial.now) every.items }
     ensures { IfOk result (λ names. AreServing (tried_of trial.now) names.items) }
 {
@@ -34,23 +37,44 @@ fn begin(alloc: Global, trial: &Trial, every: Vec<u32>) -> Result<Vec<u32>, Allo
     if serves { Ok(used) } else { Ok(every) }
 }
 
-// The replies of the unit that allows these names, where it is launched.
-fn replies_with(
+// The replies to the script, and what the programs did to its calls, where the unit that allows these names is launched.
+fn heard_with(
     alloc: Global,
     unit: &Resolved,
     calls: &CallTable,
     site: &SiteTable,
     names: &[u32],
     script: &[Call],
-) -> Result<Vec<Reply>, Refusal>
-    ensures replies { IfOk result (λ said. Serves (tried_with unit.now calls.now site.now script.now said.items) names.now) }
-    ensures one_each { IfOk result (λ said. length said.items ≡ length script.now) }
+) -> Result<Heard, Refusal>
+    ensures replies { IfOk result (λ heard. IsHeardOf (tried_with unit.now calls.now site.now script.now heard.said.items) names.now heard.fates.items) }
+    ensures one_each { IfOk result (λ heard. length heard.said.items ≡ length script.now) }
+    ensures a_fate_each { IfOk result (λ heard. length heard.fates.items ≡ length script.now) }
     ensures refused { IfErr result (λ error. IsNotLaunched (extended unit.now calls.now names.now) calls.now site.now error) }
 {
     let open = extended(alloc, unit, calls, names)?;
     let mut service = launch_unit(alloc, &open, calls, site)?;
-    let said = replies_of(alloc, &mut service.world, script)?;
-    Ok(said)
+    let heard = hear(alloc, &mut service.world, script)?;
+    Ok(heard)
+}
+
+// Whether systemd 257 reads the unit.
+fn is_257(unit: &Resolved) -> bool
+    ensures { result ≡ is_257 unit.now.systemd }
+{
+    match unit.systemd {
+        Some(Version::V257) => true,
+        Some(Version::V252) | None => false,
+    }
+}
+
+// Whether lists of names change nothing but the programs of a launch. With systemd 257 some lists keep capabilities.
+fn differ_in_programs(unit: &Resolved, calls: &CallTable) -> bool
+    ensures { IsTrue result → DifferInPrograms unit.now calls.now }
+{
+    if is_257(unit) {
+        return false;
+    }
+    has_plain_names(calls)
 }
 
 // The least list, for a script that asks to push no program.
@@ -61,16 +85,19 @@ fn derive_open(
     site: &SiteTable,
     script: &Script,
 ) -> Result<Derived, Refusal>
+    requires pushes_none { first_seccomp calls.now script.now ≡ None }
     ensures { DerivesOpen unit.now calls.now site.now script.now result }
 {
     let every = every_name(alloc, calls)?;
-    let said = replies_with(alloc, unit, calls, site, &every, script.list())?;
+    let heard = heard_with(alloc, unit, calls, site, &every, script.list())?;
     let trial = Trial {
         unit,
         calls,
         site,
         script: script.list(),
-        said: &said,
+        said: &heard.said,
+        fates: &heard.fates,
+        is_foretold: differ_in_programs(unit, calls),
     };
     let names = trial.least(alloc, begin(alloc, &trial, every)?)?;
     Ok(Derived {

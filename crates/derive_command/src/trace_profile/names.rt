@@ -10,9 +10,9 @@ use crate::trace_profile::extending::name_at;
 use asked_service::CallTable;
 use std::alloc::{AllocError, Global};
 
-// How many call lines there are, in all ABIs.
+/// How many call lines there are, in all ABIs.
 #[tactic(auto, using(crate::proofs::Lists::count_all))]
-fn count_lines(calls: &CallTable) -> u32
+pub fn count_lines(calls: &CallTable) -> u32
     ensures { result ≡ length (every_call calls.now) }
 {
     calls.calls().len() as u32 + calls.calls_in(1).len() as u32

@@ -9,6 +9,9 @@ loop-name-init c =
     (sym (c.in_ok-kept.ensures.items_if_clones_equal (λ x y same. same)))
     (kept_none (tried_of c.args.self.now) c.args.names.now c.requires.serving)
 
+pub leave_out-requires-clause-are_names : goal.leave_out-requires-clause-are_names
+leave_out-requires-clause-are_names c = c.loop-name.invariant.serving.are_names
+
 pub loop-name-preserved : goal.loop-name-preserved
 loop-name-preserved c =
     kept_more (tried_of c.args.self.now) c.args.names.now c.loop-name.name-index 0 _

@@ -3,7 +3,7 @@ use Rattle.std.specs.Prelude.{IfErr}
 use Rattle.asked_service.specs.launching.Launched.{IsLaunchedUnit, IsNotLaunched}
 use Rattle.derive_command.specs.trace_profile.Extended.{extended}
 use Rattle.derive_command.proofs.Tried.{at_error}
-use Rattle.derive_command.proofs.trace_profile.finding.replies_with.Goals as goal
+use Rattle.derive_command.proofs.trace_profile.finding.heard_with.Goals as goal
 
 pub returns-in_err-service-clause-refused : goal.returns-in_err-service-clause-refused
 returns-in_err-service-clause-refused c =
@@ -15,8 +15,11 @@ returns-in_err-service-clause-refused c =
 
 pub returns-clause-replies : goal.returns-clause-replies
 returns-clause-replies c = record {
-  service = c.in_ok-service.service;
-  launched = subst (λ own. IsLaunchedUnit own c.args.calls.now c.args.site.now c.in_ok-service.service)
-      c.in_ok-open.ensures.drop_in_stands_last c.in_ok-service.ensures.launches;
-  replies = sym c.in_ok-said.ensures.replies;
+  serves = record {
+    service = c.in_ok-service.service;
+    launched = subst (λ own. IsLaunchedUnit own c.args.calls.now c.args.site.now c.in_ok-service.service)
+        c.in_ok-open.ensures.drop_in_stands_last c.in_ok-service.ensures.launches;
+    replies = sym c.in_ok-heard.ensures.replies;
+  };
+  of_its_service = c.in_ok-heard.ensures.fates;
 }
