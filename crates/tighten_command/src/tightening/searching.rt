@@ -1,7 +1,7 @@
 //! The search for a set of items that serves, with no more.
 
 ghost use Rattle.std.specs.Prelude.{◌≡◌, ◌≤◌, ◌∷◌, IfOk};
-ghost use Rattle.tighten_command.specs.tightening.Searching.{CanBeTried, IsHeld, IsMost, TriesItem, TriesItems, tried_of};
+ghost use Rattle.tighten_command.specs.tightening.Searching.{CanBeTried, FindsItem, IsHeld, IsMost, TriesItem, TriesItems, tried_of};
 
 use crate::tightening::items::has;
 use crate::tightening::trial::Trial;
@@ -29,6 +29,33 @@ fn with_item(alloc: Global, set: &[u8], item: u8) -> Result<Vec<u8>, AllocError>
 }
 
 impl<'a> Trial<'a> {
+    // The set with an item that is outside it, where that serves.
+    fn found_with(
+        &self,
+        alloc: Global,
+        wishes: &[StoredWish],
+        held: &Held<'a>,
+        item: u8,
+    ) -> Result<Option<Held<'a>>, AllocError>
+        requires can_be_tried { CanBeTried self.now }
+        requires holds { IsHeld (tried_of self.now (⟦<StoredWish as Wished>⟧.wished wishes.now)) held.now }
+        requires from_1 { 1 ≤ item }
+        requires to_17 { item ≤ 17 }
+        ensures { IfOk result (FindsItem (tried_of self.now (⟦<StoredWish as Wished>⟧.wished wishes.now)) held.now item) }
+    {
+        if has(&held.set, item) {
+            return Ok(None);
+        }
+        let wider = with_item(alloc, &held.set, item)?;
+        match self.serves(alloc, wishes, &wider)? {
+            Some(bounded) => Ok(Some(Held {
+                set: wider,
+                bounded,
+            })),
+            None => Ok(None),
+        }
+    }
+
     // Adds an item that is outside the set, where the set with it serves.
     fn try_item(
         &self,
@@ -43,15 +70,8 @@ impl<'a> Trial<'a> {
         requires to_17 { item ≤ 17 }
         ensures { IfOk result (TriesItem (tried_of self.now (⟦<StoredWish as Wished>⟧.wished wishes.now)) held.entry.set.items item) }
     {
-        if has(&held.set, item) {
-            return Ok(held);
-        }
-        let wider = with_item(alloc, &held.set, item)?;
-        match self.serves(alloc, wishes, &wider)? {
-            Some(bounded) => Ok(Held {
-                set: wider,
-                bounded,
-            }),
+        match self.found_with(alloc, wishes, &held, item)? {
+            Some(next) => Ok(next),
             None => Ok(held),
         }
     }

@@ -3,7 +3,7 @@
 ghost use Rattle.std.specs.Prelude.{[], Contains, IfOk};
 ghost use Rattle.std.specs.List.{All};
 ghost use Rattle.asked_service.specs.kernel_laws.Questions.{questions};
-ghost use Rattle.tighten_command.specs.tightening.Searching.{CanBeTried, IsServing, tried_of};
+ghost use Rattle.tighten_command.specs.tightening.Searching.{CanBeTried, IsOver, IsServing, LacksFirst, tried_of};
 ghost use Rattle.tighten_command.specs.tightening.Tight.{IsTight, Tightens};
 ghost use Rattle.tighten_command.specs.tightening.Tried.{tried_with};
 
@@ -48,7 +48,25 @@ fn tight_from<'a>(
     })
 }
 
-// The same, or what the unit's own service lacks.
+// What the unit's own service lacks, if anything is.
+fn lacking(
+    alloc: Global,
+    trial: &Trial<'_>,
+    wishes: &[StoredWish],
+    own: &Bounded<'_>,
+) -> Result<(), TightenError>
+    requires can_be_tried { CanBeTried trial.now }
+    requires over_the_tables { IsOver (tried_of trial.now (⟦<StoredWish as Wished>⟧.wished wishes.now)) own.now }
+    ensures { LacksFirst (tried_of trial.now (⟦<StoredWish as Wished>⟧.wished wishes.now)) own.now.service.world result }
+{
+    match trial.lack(alloc, wishes, own)? {
+        Some(Lack::Keep(number)) => Err(TightenError::Keep(number)),
+        Some(Lack::Wish(number)) => Err(TightenError::Wish(number)),
+        None => Ok(()),
+    }
+}
+
+// The items that can be added, or what the unit's own service lacks.
 fn tighten_trial<'a>(
     alloc: Global,
     trial: &Trial<'a>,
@@ -59,11 +77,8 @@ fn tighten_trial<'a>(
 {
     let service = launch_unit(alloc, trial.unit, trial.calls, trial.site)?;
     let own = bound(alloc, service)?;
-    match trial.lack(alloc, wishes, &own)? {
-        Some(Lack::Keep(number)) => Err(TightenError::Keep(number)),
-        Some(Lack::Wish(number)) => Err(TightenError::Wish(number)),
-        None => Ok(tight_from(alloc, trial, wishes, own)?),
-    }
+    lacking(alloc, trial, wishes, &own)?;
+    Ok(tight_from(alloc, trial, wishes, own)?)
 }
 
 /// Adds items to a unit as long as the questions in `keep` stay open and the wishes stay granted.

@@ -2,7 +2,7 @@ use Rattle.tighten_command.specs.declared.tightening.tight.TightenError.TheVaria
 use Rattle.tighten_command.specs.tightening.Searching.{tried_of}
 use Rattle.tighten_command.specs.tightening.Wishes.{wishes_by}
 use Rattle.tighten_command.specs.tightening.Tight.{Tightens}
-use Rattle.tighten_command.proofs.Served.{at_error, denies_one, is_over, own_service, refuses_one}
+use Rattle.tighten_command.proofs.Served.{at_error, is_over, lacks_one, own_service}
 use Rattle.tighten_command.proofs.tightening.tightening.tighten_trial.Goals as goal
 
 pub returns-in_err-service : goal.returns-in_err-service
@@ -14,8 +14,8 @@ returns-in_err-service g c =
 pub bound-requires : goal.bound-requires
 bound-requires g c = record { served = c.in_ok-service.ensures.launches.launched.is_served }
 
-pub lack-requires : goal.lack-requires
-lack-requires g c =
+pub lacking-requires : goal.lacking-requires
+lacking-requires g c =
     let tried = tried_of c.args.trial.now (wishes_by (λ wish. wish.must_open) (λ wish shown answer. (goal.Fn-dyn g).post (wish.test.vtable, wish.test.value) (shown, tt) answer) c.args.wishes.now) in
     record {
       can_be_tried = c.requires.can_be_tried;
@@ -33,22 +33,15 @@ tight_from-requires g c =
         launched = own_service tried c.in_ok-service.service c.in_ok-own.own.service c.in_ok-own.ensures.bounds.0
             c.in_ok-service.ensures.launches;
         is_bounded = c.in_ok-own.ensures.bounds.1;
-        pleases = rw c.in-None.is at c.in_ok-number.ensures.first_lack;
+        pleases = c.in_ok-lacking.ensures;
       };
     }
 
-pub returns-in-Some-Keep : goal.returns-in-Some-Keep
-returns-in-Some-Keep g c =
+pub returns-in_err-lacking : goal.returns-in_err-lacking
+returns-in_err-lacking g c =
     let tried = tried_of c.args.trial.now (wishes_by (λ wish. wish.must_open) (λ wish shown answer. (goal.Fn-dyn g).post (wish.test.vtable, wish.test.value) (shown, tt) answer) c.args.wishes.now) in
-    rw c.in-Some-Keep.field-0-is
-    (denies_one tried c.in_ok-own.own.service
+    let why = c.in_err-lacking.field-0.0 in
+    at_error (Tightens tried) c.from_residual-in_err-lacking.result why c.from_residual-in_err-lacking.ensures.1
+    (lacks_one tried c.in_ok-own.own.service
     (own_service tried c.in_ok-service.service c.in_ok-own.own.service c.in_ok-own.ensures.bounds.0 c.in_ok-service.ensures.launches)
-    c.in-Some-Keep.number (rw c.in-Some-Keep.field-0-is at (rw c.in-Some-Keep.is at c.in_ok-number.ensures.first_lack)))
-
-pub returns-in-Some-Wish : goal.returns-in-Some-Wish
-returns-in-Some-Wish g c =
-    let tried = tried_of c.args.trial.now (wishes_by (λ wish. wish.must_open) (λ wish shown answer. (goal.Fn-dyn g).post (wish.test.vtable, wish.test.value) (shown, tt) answer) c.args.wishes.now) in
-    rw c.in-Some-Wish.field-0-is
-    (refuses_one tried c.in_ok-own.own.service
-    (own_service tried c.in_ok-service.service c.in_ok-own.own.service c.in_ok-own.ensures.bounds.0 c.in_ok-service.ensures.launches)
-    c.in-Some-Wish.number (rw c.in-Some-Wish.field-0-is at (rw c.in-Some-Wish.is at c.in_ok-number.ensures.first_lack)))
+    why c.in_err-lacking.ensures)
