@@ -1,8 +1,9 @@
 -- The parts of a unit are read by these calls.
 use Rattle.std.proofs.Common.{◌≡◌, ℕ, ◌+◌, ◌<◌, Bool, true, false, cond, List, [], ◌∷◌, length, drop, get_or, Option, Some, None, Result}
 use Rattle.std.proofs.Common.{Ok, Err, map, Vec, String, Global, refl, sym, ap, ◌∙◌, subst}
-use Rattle.std.specs.Prelude.{IfSome, IsErrOf, is_some, string_bytes, unwrap_or}
+use Rattle.std.specs.Prelude.{IsErrOf, is_some, string_bytes, unwrap_or}
 use Rattle.host_io.specs.declared.reading.ShelfError.{ShelfError}
+use Rattle.host_io.specs.Agreeing.{ForFiles}
 use Rattle.host_io.specs.Calls.{Ask, ShelfCall, call_of, course_of, Course, Whole, Cut, AsksExactly, NamesIn, up_to}
 use Rattle.host_io.specs.Files.{Files, bytes_at, names_in}
 use Rattle.host_io.proofs.Calling.{Going, goes_on, one_call, stops_there, went_cut}
@@ -19,7 +20,6 @@ use Rattle.dropin_merge.specs.declared.errors.ResolveError.{ResolveError}
 use Rattle.dropin_merge.specs.declared.errors.ResolveError.TheVariants.{BadName, NotFound, Masked, DropIns, TooLarge, Text, ReadFault}
 use Rattle.dropin_merge.specs.declared.errors.ResolveError.TheVariants.{Memory}
 use Rattle.dropin_merge.proofs.Left.{left_more}
-use Rattle.dropin_merge.proofs.Reading.{told_from, told_to}
 
 -- ---- one call
 module _ {S : Type 0} (asks : S → ShelfCall → S → Type 0) (a b : S) (ask : Ask) where
@@ -116,127 +116,119 @@ module _ {S : Type 0} (asks : S → ShelfCall → S → Type 0) (is_last : List 
       (subst (λ left. Going asks a b whole (map ask (up_to is_last left))) (left_more xs i x text h is said) going) made
 
 -- ---- the loops
-module _ {S : Type 0} (asks : S → ShelfCall → S → Type 0) (start told : Option Files) (same : told ≡ start) (a b c : S) (xs : List (String Global)) (i : ℕ) (x : String Global) (text : List ℕ) (h : i < length xs) (is : x ≡ get_or xs i x) (said : text ≡ string_bytes x) where
+module _ {S : Type 0} (asks : S → ShelfCall → S → Type 0) (between agrees : Files → Type 0) (stays : ForFiles agrees between) (a b c : S) (xs : List (String Global)) (i : ℕ) (x : String Global) (text : List ℕ) (h : i < length xs) (is : x ≡ get_or xs i x) (said : text ≡ string_bytes x) where
   -- the fragment is not at this path
-  pub fragment_more : IfSome told (λ files. IsUnlessFailed {T = Found} (Ok Missing) (file_at text (bytes_at files text)))
+  pub fragment_more : ForFiles agrees (λ files. IsUnlessFailed {T = Found} (Ok Missing) (file_at text (bytes_at files text)))
       → AsksExactly asks b c (unit_file text ∷ []) Whole
-      → ((files : Files) → start ≡ Some files → Going asks a b (fragment_asks files (map string_bytes xs))
+      → ((files : Files) → between files → Going asks a b (fragment_asks files (map string_bytes xs))
       (fragment_asks files (map string_bytes (drop i xs))))
-      → (files : Files) → start ≡ Some files → Going asks a c (fragment_asks files (map string_bytes xs))
+      → (files : Files) → agrees files → Going asks a c (fragment_asks files (map string_bytes xs))
       (fragment_asks files (map string_bytes (drop (i + 1) xs)))
-  fragment_more read made going files known =
+  fragment_more read made going files (stays files known) =
       text_more asks (is_there files) unit_file (fragment_asks files (map string_bytes xs)) a b c xs i x text h is said
       (missing_is text (bytes_at files text)
-      (told_from (λ files. IsUnlessFailed {T = Found} (Ok Missing) (file_at text (bytes_at files text))) told read files
-      (same ∙ known)))
-      (going files known) made
+      (read files known))
+      (going files (stays files known)) made
 
   -- the fragment is at this path
   pub fragment_found : (found : Found) → (found ≡ Missing → ⊥)
-      → IfSome told (λ files. IsUnlessFailed {T = Found} (Ok found) (file_at text (bytes_at files text)))
+      → ForFiles agrees (λ files. IsUnlessFailed {T = Found} (Ok found) (file_at text (bytes_at files text)))
       → AsksExactly asks b c (unit_file text ∷ []) Whole
-      → ((files : Files) → start ≡ Some files → Going asks a b (fragment_asks files (map string_bytes xs))
+      → ((files : Files) → between files → Going asks a b (fragment_asks files (map string_bytes xs))
       (fragment_asks files (map string_bytes (drop i xs))))
-      → IfSome start (λ files. AsksExactly asks a c (fragment_asks files (map string_bytes xs)) Whole)
+      → ForFiles agrees (λ files. AsksExactly asks a c (fragment_asks files (map string_bytes xs)) Whole)
   fragment_found found other read made going =
-      told_to (λ files. AsksExactly asks a c (fragment_asks files (map string_bytes xs)) Whole) start
       (λ files known.
       text_stops asks (is_there files) unit_file (fragment_asks files (map string_bytes xs)) a b c xs i x text Whole h is said
       (λ whole. there_if text (bytes_at files text) (Ok found)
-      (told_from (λ files. IsUnlessFailed {T = Found} (Ok found) (file_at text (bytes_at files text))) told read files (same ∙ known))
+      (read files known)
       (λ e. other (cc)))
-      (going files known) made)
+      (going files (stays files known)) made)
 
-  pub fragment_stops : (e : ResolveError) → IfSome told (λ files. IsUnlessFailed {T = Found} (Err e) (file_at text (bytes_at files text)))
+  pub fragment_stops : (e : ResolveError) → ForFiles agrees (λ files. IsUnlessFailed {T = Found} (Err e) (file_at text (bytes_at files text)))
       → AsksExactly asks b c (unit_file text ∷ []) (course {T = Found} (Err e))
-      → ((files : Files) → start ≡ Some files → Going asks a b (fragment_asks files (map string_bytes xs))
+      → ((files : Files) → between files → Going asks a b (fragment_asks files (map string_bytes xs))
       (fragment_asks files (map string_bytes (drop i xs))))
-      → IfSome start (λ files. AsksExactly asks a c (fragment_asks files (map string_bytes xs)) (course {T = UnitFile} (Err e)))
+      → ForFiles agrees (λ files. AsksExactly asks a c (fragment_asks files (map string_bytes xs)) (course {T = UnitFile} (Err e)))
   fragment_stops e read made going =
-      told_to (λ files. AsksExactly asks a c (fragment_asks files (map string_bytes xs)) (course {T = UnitFile} (Err e))) start
       (λ files known.
       subst (AsksExactly asks a c (fragment_asks files (map string_bytes xs))) (course_as Found UnitFile e)
       (text_stops asks (is_there files) unit_file (fragment_asks files (map string_bytes xs)) a b c xs i x text
       (course {T = Found} (Err e)) h is said
       (refused_is_there text (bytes_at files text) e
-      (told_from (λ files. IsUnlessFailed {T = Found} (Err e) (file_at text (bytes_at files text))) told read files (same ∙ known)))
-      (going files known) made))
+      (read files known))
+      (going files (stays files known)) made))
 
   -- a drop-in is not refused
-  pub dropin_more : (found : Found) → IfSome told (λ files. IsUnlessFailed {T = Found} (Ok found) (file_at text (bytes_at files text)))
+  pub dropin_more : (found : Found) → ForFiles agrees (λ files. IsUnlessFailed {T = Found} (Ok found) (file_at text (bytes_at files text)))
       → AsksExactly asks b c (unit_file text ∷ []) Whole
-      → ((files : Files) → start ≡ Some files → Going asks a b (dropin_asks files (map string_bytes xs))
+      → ((files : Files) → between files → Going asks a b (dropin_asks files (map string_bytes xs))
       (dropin_asks files (map string_bytes (drop i xs))))
-      → (files : Files) → start ≡ Some files → Going asks a c (dropin_asks files (map string_bytes xs))
+      → (files : Files) → agrees files → Going asks a c (dropin_asks files (map string_bytes xs))
       (dropin_asks files (map string_bytes (drop (i + 1) xs)))
-  dropin_more found read made going files known =
+  dropin_more found read made going files (stays files known) =
       text_more asks (is_refused files) unit_file (dropin_asks files (map string_bytes xs)) a b c xs i x text h is said
-      (ap is_refusal (told_from (λ files. IsUnlessFailed {T = Found} (Ok found) (file_at text (bytes_at files text))) told read files
-      (same ∙ known)))
-      (going files known) made
+      (ap is_refusal (read files known))
+      (going files (stays files known)) made
 
-  pub dropin_stops : (e : ResolveError) → IfSome told (λ files. IsUnlessFailed {T = Found} (Err e) (file_at text (bytes_at files text)))
+  pub dropin_stops : (e : ResolveError) → ForFiles agrees (λ files. IsUnlessFailed {T = Found} (Err e) (file_at text (bytes_at files text)))
       → AsksExactly asks b c (unit_file text ∷ []) (course {T = Found} (Err e))
-      → ((files : Files) → start ≡ Some files → Going asks a b (dropin_asks files (map string_bytes xs))
+      → ((files : Files) → between files → Going asks a b (dropin_asks files (map string_bytes xs))
       (dropin_asks files (map string_bytes (drop i xs))))
-      → IfSome start (λ files. AsksExactly asks a c (dropin_asks files (map string_bytes xs)) (course {T = List UnitFile} (Err e)))
+      → ForFiles agrees (λ files. AsksExactly asks a c (dropin_asks files (map string_bytes xs)) (course {T = List UnitFile} (Err e)))
   dropin_stops e read made going =
-      told_to (λ files. AsksExactly asks a c (dropin_asks files (map string_bytes xs)) (course {T = List UnitFile} (Err e))) start
       (λ files known.
       subst (AsksExactly asks a c (dropin_asks files (map string_bytes xs))) (course_as Found (List UnitFile) e)
       (text_stops asks (is_refused files) unit_file (dropin_asks files (map string_bytes xs)) a b c xs i x text
       (course {T = Found} (Err e)) h is said
       (refused_is_refused (file_at text (bytes_at files text)) e
-      (told_from (λ files. IsUnlessFailed {T = Found} (Err e) (file_at text (bytes_at files text))) told read files (same ∙ known)))
-      (going files known) made))
+      (read files known))
+      (going files (stays files known)) made))
 
   -- memory ran out after a drop-in was read
-  pub dropin_cut : (found : Found) → IfSome told (λ files. IsUnlessFailed {T = Found} (Ok found) (file_at text (bytes_at files text)))
+  pub dropin_cut : (found : Found) → ForFiles agrees (λ files. IsUnlessFailed {T = Found} (Ok found) (file_at text (bytes_at files text)))
       → AsksExactly asks b c (unit_file text ∷ []) Whole
-      → ((files : Files) → start ≡ Some files → Going asks a b (dropin_asks files (map string_bytes xs))
+      → ((files : Files) → between files → Going asks a b (dropin_asks files (map string_bytes xs))
       (dropin_asks files (map string_bytes (drop i xs))))
-      → IfSome start (λ files. AsksExactly asks a c (dropin_asks files (map string_bytes xs)) Cut)
+      → ForFiles agrees (λ files. AsksExactly asks a c (dropin_asks files (map string_bytes xs)) Cut)
   dropin_cut found read made going =
-      told_to (λ files. AsksExactly asks a c (dropin_asks files (map string_bytes xs)) Cut) start
       (λ files known.
       text_stops asks (is_refused files) unit_file (dropin_asks files (map string_bytes xs)) a b c xs i x text Cut h is said (λ e. cc)
-      (going files known) (went_cut asks b c (unit_file text ∷ []) made))
+      (going files (stays files known)) (went_cut asks b c (unit_file text ∷ []) made))
 
   -- a folder has not too many files
-  pub folder_more : (names : Vec (String Global) Global) → IfSome told (λ files. ListsPlace (names_in files text) (Ok names))
+  pub folder_more : (names : Vec (String Global) Global) → ForFiles agrees (λ files. ListsPlace (names_in files text) (Ok names))
       → AsksExactly asks b c (NamesIn text ∷ []) Whole
-      → ((files : Files) → start ≡ Some files → Going asks a b (folder_asks files (map string_bytes xs))
+      → ((files : Files) → between files → Going asks a b (folder_asks files (map string_bytes xs))
       (folder_asks files (map string_bytes (drop i xs))))
-      → (files : Files) → start ≡ Some files → Going asks a c (folder_asks files (map string_bytes xs))
+      → (files : Files) → agrees files → Going asks a c (folder_asks files (map string_bytes xs))
       (folder_asks files (map string_bytes (drop (i + 1) xs)))
-  folder_more names listed made going files known =
+  folder_more names listed made going files (stays files known) =
       text_more asks (is_overfull files) NamesIn (folder_asks files (map string_bytes xs)) a b c xs i x text h is said
-      (told_from (λ files. ListsPlace (names_in files text) (Ok names)) told listed files (same ∙ known)).1
-      (going files known) made
+      (listed files known).1
+      (going files (stays files known)) made
 
   pub folder_cut : AsksExactly asks b c (NamesIn text ∷ []) Whole
-      → ((files : Files) → start ≡ Some files → Going asks a b (folder_asks files (map string_bytes xs))
+      → ((files : Files) → between files → Going asks a b (folder_asks files (map string_bytes xs))
       (folder_asks files (map string_bytes (drop i xs))))
-      → IfSome start (λ files. AsksExactly asks a c (folder_asks files (map string_bytes xs)) Cut)
+      → ForFiles agrees (λ files. AsksExactly asks a c (folder_asks files (map string_bytes xs)) Cut)
   folder_cut made going =
-      told_to (λ files. AsksExactly asks a c (folder_asks files (map string_bytes xs)) Cut) start
       (λ files known.
       text_stops asks (is_overfull files) NamesIn (folder_asks files (map string_bytes xs)) a b c xs i x text Cut h is said (λ e. cc)
-      (going files known) (went_cut asks b c (NamesIn text ∷ []) made))
+      (going files (stays files known)) (went_cut asks b c (NamesIn text ∷ []) made))
 
-  pub folder_stops : (T : Type 0) (e : ResolveError) → IfSome told (λ files. ListsPlace (names_in files text) (Err e))
+  pub folder_stops : (T : Type 0) (e : ResolveError) → ForFiles agrees (λ files. ListsPlace (names_in files text) (Err e))
       → AsksExactly asks b c (NamesIn text ∷ []) (course {T = Vec (String Global) Global} (Err e))
-      → ((files : Files) → start ≡ Some files → Going asks a b (folder_asks files (map string_bytes xs))
+      → ((files : Files) → between files → Going asks a b (folder_asks files (map string_bytes xs))
       (folder_asks files (map string_bytes (drop i xs))))
-      → IfSome start (λ files. AsksExactly asks a c (folder_asks files (map string_bytes xs)) (course {T = T} (Err e)))
+      → ForFiles agrees (λ files. AsksExactly asks a c (folder_asks files (map string_bytes xs)) (course {T = T} (Err e)))
   folder_stops T e listed made going =
-      told_to (λ files. AsksExactly asks a c (folder_asks files (map string_bytes xs)) (course {T = T} (Err e))) start
       (λ files known.
       subst (AsksExactly asks a c (folder_asks files (map string_bytes xs))) (course_as (Vec (String Global) Global) T e)
       (text_stops asks (is_overfull files) NamesIn (folder_asks files (map string_bytes xs)) a b c xs i x text
       (course {T = Vec (String Global) Global} (Err e)) h is said
-      (refused_is_overfull files text e (told_from (λ files. ListsPlace (names_in files text) (Err e)) told listed files (same ∙ known)))
-      (going files known) made))
+      (refused_is_overfull files text e (listed files known))
+      (going files (stays files known)) made))
 
 -- ---- the fragment
 pub not_empty : (found : Found) → found ≡ Empty → found ≡ Missing → ⊥
@@ -263,26 +255,24 @@ pub fragment_left : (files : Files) (xs : List (String Global)) (i : ℕ) (x : S
     ≡ fragment_read files (cond (is_there files text) (Some text) (fragment_of files (map string_bytes (drop (i + 1) xs))))
 fragment_left files xs i x text h is said = ap (λ left. fragment_read files (fragment_of files left)) (left_more xs i x text h is said)
 
-module _ (start told : Option Files) (same : told ≡ start) (xs : List (String Global)) (i : ℕ) (x : String Global) (text : List ℕ)
+module _ (between agrees : Files → Type 0) (stays : ForFiles agrees between) (xs : List (String Global)) (i : ℕ) (x : String Global) (text : List ℕ)
     (h : i < length xs) (is : x ≡ get_or xs i x) (said : text ≡ string_bytes x)
-    (left : (files : Files) → start ≡ Some files → fragment_read files (fragment_of files (map string_bytes (drop i xs))) ≡ fragment_read files (fragment_of files (map string_bytes xs))) where
-  pub fragment_goes_on : IfSome told (λ files. IsUnlessFailed {T = Found} (Ok Missing) (file_at text (bytes_at files text)))
-      → (files : Files) → start ≡ Some files → fragment_read files (fragment_of files (map string_bytes (drop (i + 1) xs)))
+    (left : (files : Files) → between files → fragment_read files (fragment_of files (map string_bytes (drop i xs))) ≡ fragment_read files (fragment_of files (map string_bytes xs))) where
+  pub fragment_goes_on : ForFiles agrees (λ files. IsUnlessFailed {T = Found} (Ok Missing) (file_at text (bytes_at files text)))
+      → (files : Files) → agrees files → fragment_read files (fragment_of files (map string_bytes (drop (i + 1) xs)))
       ≡ fragment_read files (fragment_of files (map string_bytes xs))
   fragment_goes_on read files known =
       sym (ap (λ b. fragment_read files (cond b (Some text) (fragment_of files (map string_bytes (drop (i + 1) xs)))))
       (missing_is text (bytes_at files text)
-      (told_from (λ files. IsUnlessFailed {T = Found} (Ok Missing) (file_at text (bytes_at files text))) told read files
-      (same ∙ known))))
-      ∙ sym (fragment_left files xs i x text h is said) ∙ left files known
+      (read files known)))
+      ∙ sym (fragment_left files xs i x text h is said) ∙ left files (stays files known)
 
   pub fragment_says : (file : UnitFile)
-      → IfSome told (λ files. IsUnlessFailed {T = Found} (Ok (Says file)) (file_at text (bytes_at files text)))
-      → IfSome start (λ files. IsUnlessFailed {T = UnitFile} (Ok file) (fragment_read files (fragment_of files (map string_bytes xs))))
+      → ForFiles agrees (λ files. IsUnlessFailed {T = Found} (Ok (Says file)) (file_at text (bytes_at files text)))
+      → ForFiles agrees (λ files. IsUnlessFailed {T = UnitFile} (Ok file) (fragment_read files (fragment_of files (map string_bytes xs))))
   fragment_says file read =
-      told_to (λ files. IsUnlessFailed {T = UnitFile} (Ok file) (fragment_read files (fragment_of files (map string_bytes xs)))) start
       (λ files known.
-      let found = said_is text (bytes_at files text) file (told_from (λ files. IsUnlessFailed {T = Found} (Ok (Says file)) (file_at text (bytes_at files text))) told read files (same ∙ known)) in
-      sym (left files known) ∙ fragment_left files xs i x text h is said
+      let found = said_is text (bytes_at files text) file (read files known) in
+      sym (left files (stays files known)) ∙ fragment_left files xs i x text h is said
       ∙ ap (λ b. fragment_read files (cond b (Some text) (fragment_of files (map string_bytes (drop (i + 1) xs))))) found.0
       ∙ found.1)

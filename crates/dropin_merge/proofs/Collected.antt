@@ -1,13 +1,14 @@
 -- The winners of the places listed so far, with the winners of the remaining places.
 use Rattle.std.proofs.Common.{◌≡◌, ℕ, ◌+◌, ◌<◌, ◌≤◌, false, List, [], ◌∷◌, length, drop, get_or, Option, Some, None, Ok, map, Vec, String}
 use Rattle.std.proofs.Common.{Global, sym, ap, ◌∙◌, subst, arith}
-use Rattle.std.specs.Prelude.{◌&&◌, ◌||◌, nat_lt, cond, IfSome, string_bytes}
+use Rattle.std.specs.Prelude.{◌&&◌, ◌||◌, nat_lt, cond, string_bytes}
 use Rattle.std.specs.Option.{option_or}
 use Rattle.std.specs.Str.{bytes_eq}
 use Rattle.std.specs.List.{list_any}
 use Rattle.std.specs.BTreeMap.{BTreeMap}
 use Rattle.std.proofs.lemmas.Bool.Decides.{nat_tests}
 use Rattle.std.proofs.lemmas.List.Sorted.{list_any-IsPermutation}
+use Rattle.host_io.specs.Agreeing.{ForFiles}
 use Rattle.host_io.specs.Files.{Files, names_in}
 use Rattle.host_io.specs.Reading.{Lists}
 use Rattle.dropin_merge.specs.Places.{below}
@@ -15,17 +16,16 @@ use Rattle.dropin_merge.specs.Winners.{ends_in_conf, winner_among}
 use Rattle.dropin_merge.specs.Resolving.{is_overfull}
 use Rattle.dropin_merge.specs.Steps.{winner_at, at_name, at_place, ListsPlace}
 use Rattle.dropin_merge.proofs.Left.{drop_read, left_more}
-use Rattle.dropin_merge.proofs.Reading.{told_from}
 use Rattle.dropin_merge.proofs.Winning.{winner_among-cons, option_or_assoc, option_or-none, at_place-cons, at_place-nil}
 
 few_files : (n : ℕ) → n ≤ 4096 → nat_lt 4096 n ≡ false
 few_files n h = grind (arith, nat_tests)
 
 -- a listing answers the names of a place
-pub lists_place : (told : Option Files) (folder : List ℕ) (names : Vec (String Global) Global) → Lists told folder (Ok names)
-    → IfSome told (λ files. ListsPlace (names_in files folder) (Ok names))
-lists_place None folder names h = tt
-lists_place (Some files) folder names h = (
+pub lists_place : (agrees : Files → Type 0) (folder : List ℕ) (names : Vec (String Global) Global) → ForFiles agrees (λ files. Lists files folder (Ok names))
+    → ForFiles agrees (λ files. ListsPlace (names_in files folder) (Ok names))
+lists_place agrees folder names listed files agree =
+  let h = listed files agree in (
   λ q. sym (list_any-IsPermutation (bytes_eq q) (names_in files folder) (map string_bytes names.items) h.names_of_the_folder),
   few_files (length (names_in files folder)) h.not_too_many,
 )
@@ -77,19 +77,19 @@ collected_more files m n place left all names inv listed step = record {
 }
 
 -- a turn of the loop over places
-pub collected_turn : (files : Files) (told : Option Files) (m n : BTreeMap (String Global) (String Global))
+pub collected_turn : (files : Files) (agrees : Files → Type 0) (m n : BTreeMap (String Global) (String Global))
     (places : List (String Global)) (i : ℕ) (place : String Global) (text again : List ℕ) (names : Vec (String Global) Global)
     (slice : List (String Global)) (all : List (List ℕ))
-    → told ≡ Some files
+    → agrees files
     → i < length places → place ≡ get_or places i place → text ≡ string_bytes place → again ≡ string_bytes place
     → slice ≡ names.items
-    → IfSome told (λ files. ListsPlace (names_in files text) (Ok names))
+    → ForFiles agrees (λ files. ListsPlace (names_in files text) (Ok names))
     → ((q : List ℕ) → winner_at n q ≡ option_or (winner_at m q) (at_place again (map string_bytes slice) q))
     → Collected files m (map string_bytes (drop i places)) all
     → Collected files n (map string_bytes (drop (i + 1) places)) all
-collected_turn files told m n places i place text again names slice all e h is said said_again sliced listed step inv =
+collected_turn files agrees m n places i place text again names slice all e h is said said_again sliced listed step inv =
     collected_more files m n text (map string_bytes (drop (i + 1) places)) all names
     (subst (λ left. Collected files m left all) (left_more places i place text h is said) inv)
-    (told_from (λ files. ListsPlace (names_in files text) (Ok names)) told listed files e)
+    (listed files e)
     (λ q. step q ∙ ap (λ t. option_or (winner_at m q) (at_place t (map string_bytes slice) q)) (said_again ∙ sym said)
     ∙ ap (λ ns. option_or (winner_at m q) (at_place text (map string_bytes ns) q)) sliced)

@@ -1,13 +1,14 @@
 -- The files in force, by the map of winners.
 use Rattle.std.proofs.Common.{◌≡◌, ℕ, ◌<◌, ◌≤◌, Bool, true, false, cond, List, [], ◌∷◌, length, Option, Some, Result, Ok, Err, map, String}
 use Rattle.std.proofs.Common.{Global, refl, sym, ap, ◌∙◌, subst, arith}
-use Rattle.std.specs.Prelude.{◌||◌, nat_lt, IfSome, string_bytes}
+use Rattle.std.specs.Prelude.{◌||◌, nat_lt, string_bytes}
 use Rattle.std.specs.List.{list_any}
 use Rattle.std.specs.Map.{values_of}
 use Rattle.std.specs.String.{string_cmp}
 use Rattle.std.specs.BTreeMap.{BTreeMap, IsOrdered}
 use Rattle.std.proofs.lemmas.Bool.Decides.{nat_tests}
 use Rattle.std.proofs.lemmas.List.{length-map}
+use Rattle.host_io.specs.Agreeing.{ForFiles}
 use Rattle.host_io.specs.Files.{Files}
 use Rattle.unit_names.specs.Names.{Name}
 use Rattle.dropin_merge.specs.Answers.{IsUnlessFailed}
@@ -20,7 +21,7 @@ use Rattle.dropin_merge.specs.declared.resolved.Resolved.{Resolved}
 use Rattle.dropin_merge.specs.declared.resolved.UnitFile.{UnitFile}
 use Rattle.dropin_merge.specs.declared.errors.ResolveError.{ResolveError}
 use Rattle.dropin_merge.specs.declared.errors.ResolveError.TheVariants.{DropIns}
-use Rattle.dropin_merge.proofs.Reading.{told_from, told_to, failed_on}
+use Rattle.dropin_merge.proofs.Reading.{failed_on}
 use Rattle.dropin_merge.proofs.Winning.{entry_texts, entries_are_winners}
 
 paths_of_entries : (es : List (String Global × String Global))
@@ -69,56 +70,50 @@ module _ (files : Files) (unit : Name) (places : List (List ℕ)) (m : BTreeMap 
       ap (λ ps. joined_by (fragment ∷ []) (dropins_read files ps)) winning_are
       ∙ sym (ap (λ b. cond b (Err DropIns) (joined_by (fragment ∷ []) (dropins_read files (winning_paths files unit)))) (is_not_crowded h))
 
--- the answer over the files that the shelf shows
-pub refuses_many : (told : Option Files) (unit : Name) (places : List (List ℕ)) (m : BTreeMap (String Global) (String Global))
+-- the answer over the files that agree with the shelf
+pub refuses_many : (agrees : Files → Type 0) (unit : Name) (places : List (List ℕ)) (m : BTreeMap (String Global) (String Global))
     (fragment : UnitFile) → places ≡ dropin_places unit → IsOrdered string_cmp m
-    → IfSome told (λ files. CollectsWinners files places (Ok m)) → 256 < length m.entries
-    → IfSome told (λ files. files_of files unit fragment ≡ Err DropIns)
-refuses_many told unit places m fragment named ordered collected h =
-    told_to (λ files. files_of files unit fragment ≡ Err DropIns) told
+    → ForFiles agrees (λ files. CollectsWinners files places (Ok m)) → 256 < length m.entries
+    → ForFiles agrees (λ files. files_of files unit fragment ≡ Err DropIns)
+refuses_many agrees unit places m fragment named ordered collected h =
     (λ files e. too_many files unit places m named ordered
-    (told_from (λ files. CollectsWinners files places (Ok m)) told collected files e) fragment h)
+    (collected files e) fragment h)
 
-pub reads_winners : (told : Option Files) (unit : Name) (places : List (List ℕ)) (m : BTreeMap (String Global) (String Global))
+pub reads_winners : (between agrees : Files → Type 0) (stays : ForFiles agrees between) (unit : Name) (places : List (List ℕ)) (m : BTreeMap (String Global) (String Global))
     (fragment : UnitFile) (paths : List (String Global)) (result : Result (List UnitFile) ResolveError) → places ≡ dropin_places unit
     → IsOrdered string_cmp m
-    → IfSome told (λ files. CollectsWinners files places (Ok m)) → length m.entries ≤ 256 → paths ≡ values_of m.entries
-    → IfSome told (λ files. IsUnlessFailed result (joined_by (fragment ∷ []) (dropins_read files (map string_bytes paths))))
-    → IfSome told (λ files. IsUnlessFailed result (files_of files unit fragment))
-reads_winners told unit places m fragment paths result named ordered collected h given read =
-    told_to (λ files. IsUnlessFailed result (files_of files unit fragment)) told
+    → ForFiles between (λ files. CollectsWinners files places (Ok m)) → length m.entries ≤ 256 → paths ≡ values_of m.entries
+    → ForFiles agrees (λ files. IsUnlessFailed result (joined_by (fragment ∷ []) (dropins_read files (map string_bytes paths))))
+    → ForFiles agrees (λ files. IsUnlessFailed result (files_of files unit fragment))
+reads_winners between agrees stays unit places m fragment paths result named ordered collected h given read =
     (λ files e.
     subst (IsUnlessFailed result)
     (ap (λ ps. joined_by (fragment ∷ []) (dropins_read files (map string_bytes ps))) given
-    ∙ in_force files unit places m named ordered (told_from (λ files. CollectsWinners files places (Ok m)) told collected files e)
+    ∙ in_force files unit places m named ordered (collected files (stays files e))
     fragment h)
-    (told_from (λ files. IsUnlessFailed result (joined_by (fragment ∷ []) (dropins_read files (map string_bytes paths)))) told read files
-    e))
+    (read files e))
 
 -- ---- a unit that is refused
-pub fragment_refused : (told : Option Files) (unit : Name) (paths : List (List ℕ)) (e : ResolveError) → paths ≡ fragment_paths unit
-    → IfSome told (λ files. IsUnlessFailed {T = UnitFile} (Err e) (fragment_read files (fragment_of files paths)))
-    → IfSome told (λ files. IsUnlessFailed {T = Resolved} (Err e) (for_unit files (Some unit)))
-fragment_refused told unit paths e named read =
-    told_to (λ files. IsUnlessFailed {T = Resolved} (Err e) (for_unit files (Some unit))) told
+pub fragment_refused : (agrees : Files → Type 0) (unit : Name) (paths : List (List ℕ)) (e : ResolveError) → paths ≡ fragment_paths unit
+    → ForFiles agrees (λ files. IsUnlessFailed {T = UnitFile} (Err e) (fragment_read files (fragment_of files paths)))
+    → ForFiles agrees (λ files. IsUnlessFailed {T = Resolved} (Err e) (for_unit files (Some unit)))
+fragment_refused agrees unit paths e named read =
     (λ files known.
     failed_on e (fragment_read files (fragment_of files paths)) (for_unit files (Some unit))
     (λ h. ap (λ r. as_resolved unit (with_fragment files unit r)) (ap (λ ps. fragment_read files (fragment_of files ps)) (sym named) ∙ h))
-    (told_from (λ files. IsUnlessFailed {T = UnitFile} (Err e) (fragment_read files (fragment_of files paths))) told read files known))
+    (read files known))
 
-pub files_refused : (told : Option Files) (unit : Name) (paths : List (List ℕ)) (fragment : UnitFile) (e : ResolveError)
+pub files_refused : (between agrees : Files → Type 0) (stays : ForFiles agrees between) (unit : Name) (paths : List (List ℕ)) (fragment : UnitFile) (e : ResolveError)
     → paths ≡ fragment_paths unit
-    → IfSome told (λ files. IsUnlessFailed {T = UnitFile} (Ok fragment) (fragment_read files (fragment_of files paths)))
-    → IfSome told (λ files. IsUnlessFailed {T = List UnitFile} (Err e) (files_of files unit fragment))
-    → IfSome told (λ files. IsUnlessFailed {T = Resolved} (Err e) (for_unit files (Some unit)))
-files_refused told unit paths fragment e named found read =
-    told_to (λ files. IsUnlessFailed {T = Resolved} (Err e) (for_unit files (Some unit))) told
+    → ForFiles between (λ files. IsUnlessFailed {T = UnitFile} (Ok fragment) (fragment_read files (fragment_of files paths)))
+    → ForFiles agrees (λ files. IsUnlessFailed {T = List UnitFile} (Err e) (files_of files unit fragment))
+    → ForFiles agrees (λ files. IsUnlessFailed {T = Resolved} (Err e) (for_unit files (Some unit)))
+files_refused between agrees stays unit paths fragment e named found read =
     (λ files known.
     failed_on e (files_of files unit fragment) (for_unit files (Some unit))
     (λ h.
     ap (λ r. as_resolved unit (with_fragment files unit r))
     (ap (λ ps. fragment_read files (fragment_of files ps)) (sym named)
-    ∙ told_from (λ files. IsUnlessFailed {T = UnitFile} (Ok fragment) (fragment_read files (fragment_of files paths))) told found
-    files known)
+    ∙ found files (stays files known))
     ∙ ap (as_resolved unit) h)
-    (told_from (λ files. IsUnlessFailed {T = List UnitFile} (Err e) (files_of files unit fragment)) told read files known))
+    (read files known))

@@ -1,7 +1,7 @@
 -- Files are read one after the other.
 use Rattle.std.proofs.Common.{◌≡◌, ℕ, ◌+◌, ◌<◌, Bool, true, false, cond, List, [], ◌∷◌, ◌++◌, length, drop, get_or, Option, Some, None}
 use Rattle.std.proofs.Common.{Result, Ok, Err, map, filter, String, Global, refl, sym, ap, ◌∙◌, subst, append_assoc, append-nil}
-use Rattle.std.specs.Prelude.{not, unwrap_or, IfSome, string_bytes}
+use Rattle.std.specs.Prelude.{not, unwrap_or, string_bytes}
 use Rattle.std.specs.List.{slice_get, filter_map}
 use Rattle.std.specs.Result.{result_ok, result_err}
 use Rattle.host_io.specs.Files.{Files, bytes_at}
@@ -18,17 +18,6 @@ use Rattle.dropin_merge.specs.declared.errors.ResolveError.TheVariants.{BadName,
 use Rattle.dropin_merge.specs.declared.errors.ResolveError.TheVariants.{Memory}
 
 -- a property of the files that the shelf shows, in both forms
-pub told_from : {X : Type 0} (P : X → Type 0) (o : Option X) → IfSome o P → (x : X) → o ≡ Some x → P x
-told_from P None h x e = cc
-told_from P (Some y) h x e = subst P (some_same y x e) h
-  where
-    some_same : {X : Type 0} (x y : X) → Some x ≡ Some y → x ≡ y
-    some_same x y e = cc
-
-pub told_to : {X : Type 0} (P : X → Type 0) (o : Option X) → ((x : X) → o ≡ Some x → P x) → IfSome o P
-told_to P None h = tt
-told_to P (Some x) h = h x refl
-
 -- a refusal stays wanted
 pub failed_on : {T U : Type 0} (e : ResolveError) (w : Result T ResolveError) (v : Result U ResolveError) → (w ≡ Err e → v ≡ Err e)
     → IsUnlessFailed {T = T} (Err e) w → IsUnlessFailed {T = U} (Err e) v
@@ -82,19 +71,19 @@ dropins_read-cons files done path paths = by_bytes (bytes_at files path) refl
         ∙ by_empty bytes (ap (λ o. unwrap_or o []) e) (is_empty bytes)
 
 -- one more of the paths is read
-pub dropin_more : (files : Files) (told : Option Files) (done new : List UnitFile) (paths : List (String Global)) (i : ℕ)
+pub dropin_more : (files : Files) (agrees : Files → Type 0) (done new : List UnitFile) (paths : List (String Global)) (i : ℕ)
     (path : String Global) (text : List ℕ) (found : Found) (whole : Result (List UnitFile) ResolveError)
-    → told ≡ Some files
+    → agrees files
     → i < length paths → path ≡ get_or paths i path → text ≡ string_bytes path
-    → IfSome told (λ files. IsUnlessFailed {T = Found} (Ok found) (file_at text (bytes_at files text)))
+    → ForFiles agrees (λ files. IsUnlessFailed {T = Found} (Ok found) (file_at text (bytes_at files text)))
     → new ≡ done ++ file_in found
     → joined_by done (dropins_read files (map string_bytes (drop i paths))) ≡ whole
     → joined_by new (dropins_read files (map string_bytes (drop (i + 1) paths))) ≡ whole
-dropin_more files told done new paths i path text found whole known h is said read made inv =
+dropin_more files agrees done new paths i path text found whole known h is said read made inv =
     let rest = map string_bytes (drop (i + 1) paths) in
     ap (λ fs. joined_by fs (dropins_read files rest)) made ∙ by_found found
     ∙ sym (ap (λ r. and_behind done r (dropins_read files rest))
-    (told_from (λ files. IsUnlessFailed {T = Found} (Ok found) (file_at text (bytes_at files text))) told read files known))
+    (read files known))
     ∙ sym (dropins_read-cons files done text rest)
     ∙ ap (λ ps. joined_by done (dropins_read files ps)) (sym (left_more paths i path text h is said)) ∙ inv
   where
@@ -105,19 +94,18 @@ dropin_more files told done new paths i path text found whole known h is said re
     by_found (Says file) = refl
 
 -- a path is refused
-pub dropin_stops : (start told : Option Files) (whole : Files → Result (List UnitFile) ResolveError) (done : List UnitFile)
+pub dropin_stops : (between agrees : Files → Type 0) (whole : Files → Result (List UnitFile) ResolveError) (done : List UnitFile)
     (paths : List (String Global)) (i : ℕ) (path : String Global) (text : List ℕ) (e : ResolveError)
-    → told ≡ start
+    → ForFiles agrees between
     → i < length paths → path ≡ get_or paths i path → text ≡ string_bytes path
-    → IfSome told (λ files. IsUnlessFailed {T = Found} (Err e) (file_at text (bytes_at files text)))
-    → ((files : Files) → start ≡ Some files → joined_by done (dropins_read files (map string_bytes (drop i paths))) ≡ whole files)
-    → IfSome start (λ files. IsUnlessFailed {T = List UnitFile} (Err e) (whole files))
-dropin_stops start told whole done paths i path text e same h is said read inv =
-    told_to (λ files. IsUnlessFailed {T = List UnitFile} (Err e) (whole files)) start
+    → ForFiles agrees (λ files. IsUnlessFailed {T = Found} (Err e) (file_at text (bytes_at files text)))
+    → ((files : Files) → between files → joined_by done (dropins_read files (map string_bytes (drop i paths))) ≡ whole files)
+    → ForFiles agrees (λ files. IsUnlessFailed {T = List UnitFile} (Err e) (whole files))
+dropin_stops between agrees whole done paths i path text e stays h is said read inv =
     (λ files known.
     failed_on e (file_at text (bytes_at files text)) (whole files)
     (λ d.
-    sym (inv files known) ∙ ap (λ ps. joined_by done (dropins_read files ps)) (left_more paths i path text h is said)
+    sym (inv files (stays files known)) ∙ ap (λ ps. joined_by done (dropins_read files ps)) (left_more paths i path text h is said)
     ∙ dropins_read-cons files done text (map string_bytes (drop (i + 1) paths))
     ∙ ap (λ r. and_behind done r (dropins_read files (map string_bytes (drop (i + 1) paths)))) d)
-    (told_from (λ files. IsUnlessFailed {T = Found} (Err e) (file_at text (bytes_at files text))) told read files (same ∙ known)))
+    (read files known))

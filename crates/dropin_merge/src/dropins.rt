@@ -1,7 +1,8 @@
 // Reads the drop-ins of a unit after its fragment.
-ghost use Rattle.std.specs.Prelude.{◌≡◌, ◌∷◌, ◌++◌, [], IfOk, IfSome, OnOk, length, map};
+ghost use Rattle.std.specs.Prelude.{◌≡◌, ◌∷◌, ◌++◌, [], IfOk, OnOk, length, map};
 ghost use Rattle.std.specs.List.{Contains};
 ghost use Rattle.std.specs.String.{string_bytes};
+ghost use Rattle.host_io.specs.Agreeing.{ForFiles};
 ghost use Rattle.host_io.specs.Calls.{AsksExactly};
 ghost use Rattle.host_io.specs.Causes.{StaysUnless};
 ghost use Rattle.dropin_merge.specs.Answers.{HasCause, IsDropinPath, IsUnlessFailed};
@@ -41,9 +42,9 @@ fn read_dropins<S: Shelf>(
 ) -> Result<UnitFiles, ResolveError>
     ensures has_the_paths { IfOk result (IsLedBy (λ file. Contains (map string_bytes paths.now) file.path) fragment (length paths.now)) }
     ensures refuses_a_path { RefusesAt (Contains (map string_bytes paths.now)) result }
-    ensures reads_in_order { IfSome (S.told shelf.old) (λ files. IsUnlessFailed result (joined_by (fragment ∷ []) (dropins_read files (map string_bytes paths.now)))) }
-    ensures asks_in_order { IfSome (S.told shelf.old) (λ files. AsksExactly S.asks shelf.old shelf.new (dropin_asks files (map string_bytes paths.now)) (course result)) }
-    ensures map_stays { S.told shelf.new ≡ S.told shelf.old }
+    ensures reads_in_order { ForFiles (S.agrees shelf.new) (λ files. IsUnlessFailed result (joined_by (fragment ∷ []) (dropins_read files (map string_bytes paths.now)))) }
+    ensures asks_in_order { ForFiles (S.agrees shelf.new) (λ files. AsksExactly S.asks shelf.old shelf.new (dropin_asks files (map string_bytes paths.now)) (course result)) }
+    ensures answers_stay { ForFiles (S.agrees shelf.new) (S.agrees shelf.old) }
     ensures fault_rose { HasCause (S.faults shelf.old) (S.faults shelf.new) result }
     ensures no_other_fault { StaysUnless ReadFault (S.faults shelf.old) (S.faults shelf.new) result }
 {
@@ -66,9 +67,9 @@ pub fn read_files<S: Shelf>(
 ) -> Result<UnitFiles, ResolveError>
     ensures has_the_dropins { IfOk result (IsLedBy (λ file. IsDropinPath (dropin_places unit.now) file.path) fragment 256) }
     ensures refuses_a_dropin { RefusesAt (IsDropinPath (dropin_places unit.now)) result }
-    ensures reads_the_files { IfSome (S.told shelf.old) (λ files. IsUnlessFailed result (files_of files unit.now fragment)) }
-    ensures asks_in_order { IfSome (S.told shelf.old) (λ files. AsksExactly S.asks shelf.old shelf.new (behind_fragment files unit.now) (course result)) }
-    ensures map_stays { S.told shelf.new ≡ S.told shelf.old }
+    ensures reads_the_files { ForFiles (S.agrees shelf.new) (λ files. IsUnlessFailed result (files_of files unit.now fragment)) }
+    ensures asks_in_order { ForFiles (S.agrees shelf.new) (λ files. AsksExactly S.asks shelf.old shelf.new (behind_fragment files unit.now) (course result)) }
+    ensures answers_stay { ForFiles (S.agrees shelf.new) (S.agrees shelf.old) }
     ensures fault_rose { HasCause (S.faults shelf.old) (S.faults shelf.new) result }
     ensures no_other_fault { StaysUnless ReadFault (S.faults shelf.old) (S.faults shelf.new) result }
 {

@@ -1,5 +1,6 @@
 // Reads a file of a unit from the shelf and judges it.
-ghost use Rattle.std.specs.Prelude.{◌≡◌, ◌∷◌, [], IfOk, IfSome, IsErrOf};
+ghost use Rattle.std.specs.Prelude.{◌≡◌, ◌∷◌, [], IfOk, IsErrOf};
+ghost use Rattle.host_io.specs.Agreeing.{ForFiles};
 ghost use Rattle.host_io.specs.Calls.{AsksExactly};
 ghost use Rattle.host_io.specs.Causes.{StaysUnless};
 ghost use Rattle.host_io.specs.Files.{bytes_at};
@@ -49,9 +50,9 @@ fn judge_file(alloc: Global, path: &str, bytes: &[u8]) -> Result<UnitFile, Resol
 pub fn file_at<S: Shelf>(alloc: Global, shelf: &mut S, path: &str) -> Result<Found, ResolveError>
     ensures has_the_path { IfOk result (LiesAt path.now) }
     ensures refuses_the_path { RefusesAt (λ p. p ≡ path.now) result }
-    ensures reads_the_file { IfSome (S.told shelf.old) (λ files. IsUnlessFailed result (file_at path.now (bytes_at files path.now))) }
+    ensures reads_the_file { ForFiles (S.agrees shelf.new) (λ files. IsUnlessFailed result (file_at path.now (bytes_at files path.now))) }
     ensures asks_for_it { AsksExactly S.asks shelf.old shelf.new (unit_file path.now ∷ []) (course result) }
-    ensures map_stays { S.told shelf.new ≡ S.told shelf.old }
+    ensures answers_stay { ForFiles (S.agrees shelf.new) (S.agrees shelf.old) }
     ensures fault_rose { HasCause (S.faults shelf.old) (S.faults shelf.new) result }
     ensures no_other_fault { StaysUnless ReadFault (S.faults shelf.old) (S.faults shelf.new) result }
 {

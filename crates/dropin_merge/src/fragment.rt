@@ -1,7 +1,8 @@
 // Reads the fragment of a unit.
-ghost use Rattle.std.specs.Prelude.{◌≡◌, IfOk, IfSome, map};
+ghost use Rattle.std.specs.Prelude.{◌≡◌, IfOk, map};
 ghost use Rattle.std.specs.List.{Contains};
 ghost use Rattle.std.specs.String.{string_bytes};
+ghost use Rattle.host_io.specs.Agreeing.{ForFiles};
 ghost use Rattle.host_io.specs.Calls.{AsksExactly};
 ghost use Rattle.host_io.specs.Causes.{StaysUnless};
 ghost use Rattle.dropin_merge.specs.Answers.{HasCause, IsUnlessFailed};
@@ -24,9 +25,9 @@ pub fn read_fragment<S: Shelf>(
 ) -> Result<UnitFile, ResolveError>
     ensures has_a_path { IfOk result (λ file. Contains (map string_bytes paths.now) file.path) }
     ensures refuses_a_path { RefusesAt (Contains (map string_bytes paths.now)) result }
-    ensures reads_the_first { IfSome (S.told shelf.old) (λ files. IsUnlessFailed result (fragment_read files (fragment_of files (map string_bytes paths.now)))) }
-    ensures asks_in_order { IfSome (S.told shelf.old) (λ files. AsksExactly S.asks shelf.old shelf.new (fragment_asks files (map string_bytes paths.now)) (course result)) }
-    ensures map_stays { S.told shelf.new ≡ S.told shelf.old }
+    ensures reads_the_first { ForFiles (S.agrees shelf.new) (λ files. IsUnlessFailed result (fragment_read files (fragment_of files (map string_bytes paths.now)))) }
+    ensures asks_in_order { ForFiles (S.agrees shelf.new) (λ files. AsksExactly S.asks shelf.old shelf.new (fragment_asks files (map string_bytes paths.now)) (course result)) }
+    ensures answers_stay { ForFiles (S.agrees shelf.new) (S.agrees shelf.old) }
     ensures fault_rose { HasCause (S.faults shelf.old) (S.faults shelf.new) result }
     ensures no_other_fault { StaysUnless ReadFault (S.faults shelf.old) (S.faults shelf.new) result }
 {

@@ -1,5 +1,6 @@
 // Lists the names in a folder of drop-ins.
-ghost use Rattle.std.specs.Prelude.{◌≡◌, ◌∷◌, [], IfSome};
+ghost use Rattle.std.specs.Prelude.{◌≡◌, ◌∷◌, []};
+ghost use Rattle.host_io.specs.Agreeing.{ForFiles};
 ghost use Rattle.host_io.specs.Calls.{NamesIn, AsksExactly};
 ghost use Rattle.host_io.specs.Causes.{StaysUnless};
 ghost use Rattle.host_io.specs.Files.{names_in};
@@ -19,9 +20,9 @@ pub fn list_place<S: Shelf>(
     place: &str,
 ) -> Result<Vec<String>, ResolveError>
     ensures refuses_no_path { RefusesAt (λ _. ⊥) result }
-    ensures lists_the_folder { IfSome (S.told shelf.old) (λ files. ListsPlace (names_in files place.now) result) }
+    ensures lists_the_folder { ForFiles (S.agrees shelf.new) (λ files. ListsPlace (names_in files place.now) result) }
     ensures asks_for_it { AsksExactly S.asks shelf.old shelf.new (NamesIn place.now ∷ []) (course result) }
-    ensures map_stays { S.told shelf.new ≡ S.told shelf.old }
+    ensures answers_stay { ForFiles (S.agrees shelf.new) (S.agrees shelf.old) }
     ensures fault_rose { HasCause (S.faults shelf.old) (S.faults shelf.new) result }
     ensures no_other_fault { StaysUnless ReadFault (S.faults shelf.old) (S.faults shelf.new) result }
 {

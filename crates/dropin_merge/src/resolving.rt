@@ -1,5 +1,6 @@
 // Resolves a unit over a shelf.
-ghost use Rattle.std.specs.Prelude.{◌≡◌, ◌↔◌, List, ℕ, Some, IfOk, IfSome};
+ghost use Rattle.std.specs.Prelude.{◌≡◌, ◌↔◌, List, ℕ, Some, IfOk};
+ghost use Rattle.host_io.specs.Agreeing.{ForFiles};
 ghost use Rattle.host_io.specs.Calls.{AsksExactly};
 ghost use Rattle.host_io.specs.Causes.{StaysUnless};
 ghost use Rattle.host_io.specs.Files.{Files};
@@ -30,9 +31,9 @@ fn resolve_unit<S: Shelf>(
     ensures is_the_unit { IfOk result (λ resolved. resolved.name ≡ unit) }
     ensures has_its_files { IfOk result (λ resolved. AreUnitFiles unit resolved.files) }
     ensures refuses_a_file { RefusesAt (IsUnitPath unit) result }
-    ensures resolves_by_the_files { IfSome (S.told shelf.old) (λ files. IsUnlessFailed result (for_unit files (Some unit))) }
-    ensures asks_in_order { IfSome (S.told shelf.old) (λ files. AsksExactly S.asks shelf.old shelf.new (unit_asks files unit) (course result)) }
-    ensures map_stays { S.told shelf.new ≡ S.told shelf.old }
+    ensures resolves_by_the_files { ForFiles (S.agrees shelf.new) (λ files. IsUnlessFailed result (for_unit files (Some unit))) }
+    ensures asks_in_order { ForFiles (S.agrees shelf.new) (λ files. AsksExactly S.asks shelf.old shelf.new (unit_asks files unit) (course result)) }
+    ensures answers_stay { ForFiles (S.agrees shelf.new) (S.agrees shelf.old) }
     ensures fault_rose { HasCause (S.faults shelf.old) (S.faults shelf.new) result }
     ensures no_other_fault { StaysUnless ReadFault (S.faults shelf.old) (S.faults shelf.new) result }
 {
@@ -52,11 +53,11 @@ fn resolve_text<S: Shelf>(
     shelf: &mut S,
     text: &str,
 ) -> Result<Resolved, ResolveError>
-    ensures resolves_by_the_files { IfSome (S.told shelf.old) (λ files. IsUnlessFailed result (resolved_of files text.now)) }
+    ensures resolves_by_the_files { ForFiles (S.agrees shelf.new) (λ files. IsUnlessFailed result (resolved_of files text.now)) }
     ensures names_the_unit { NamesUnit text.now result }
     ensures lies_in_its_places { LiesInPlaces text.now result }
-    ensures asks_in_order { IfSome (S.told shelf.old) (λ files. AsksExactly S.asks shelf.old shelf.new (resolve_asks files text.now) (course result)) }
-    ensures map_stays { S.told shelf.new ≡ S.told shelf.old }
+    ensures asks_in_order { ForFiles (S.agrees shelf.new) (λ files. AsksExactly S.asks shelf.old shelf.new (resolve_asks files text.now) (course result)) }
+    ensures answers_stay { ForFiles (S.agrees shelf.new) (S.agrees shelf.old) }
     ensures fault_rose { HasCause (S.faults shelf.old) (S.faults shelf.new) result }
     ensures no_other_fault { StaysUnless ReadFault (S.faults shelf.old) (S.faults shelf.new) result }
 {
@@ -92,11 +93,11 @@ fn resolve_text<S: Shelf>(
 /// `ReadFault` means that the shelf's count of faults rose; any other answer leaves the count. A drop-in contributes nothing
 /// if the shelf lists it and then answers `Missing`.
 pub fn resolve<S: Shelf>(alloc: Global, shelf: &mut S, name: &str) -> Result<Resolved, ResolveError>
-    ensures resolves_by_the_files { IfSome (S.told shelf.old) (λ files. IsUnlessFailed result (resolved_of files name.now)) }
+    ensures resolves_by_the_files { ForFiles (S.agrees shelf.new) (λ files. IsUnlessFailed result (resolved_of files name.now)) }
     ensures names_the_unit { NamesUnit name.now result }
     ensures lies_in_its_places { LiesInPlaces name.now result }
-    ensures asks_in_order { IfSome (S.told shelf.old) (λ files. AsksExactly S.asks shelf.old shelf.new (resolve_asks files name.now) (course result)) }
-    ensures map_stays { S.told shelf.new ≡ S.told shelf.old }
+    ensures asks_in_order { ForFiles (S.agrees shelf.new) (λ files. AsksExactly S.asks shelf.old shelf.new (resolve_asks files name.now) (course result)) }
+    ensures answers_stay { ForFiles (S.agrees shelf.new) (S.agrees shelf.old) }
     ensures fault_rose { HasCause (S.faults shelf.old) (S.faults shelf.new) result }
     ensures no_other_fault { StaysUnless ReadFault (S.faults shelf.old) (S.faults shelf.new) result }
     // Of all drop-ins of the map with one file name, the drop-in of least rank wins.

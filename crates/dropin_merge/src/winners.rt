@@ -1,11 +1,12 @@
 // Finds the drop-ins that win their file names.
 //
 // The folders are listed by their rank, so the first path of a file name wins it.
-ghost use Rattle.std.specs.Prelude.{◌≡◌, List, ℕ, IfSome, OnOk, IfOk, map};
+ghost use Rattle.std.specs.Prelude.{◌≡◌, List, ℕ, OnOk, IfOk, map};
 ghost use Rattle.std.specs.List.{Contains};
 ghost use Rattle.std.specs.Map.{values_of};
 ghost use Rattle.std.specs.String.{string_bytes};
 ghost use Rattle.std.specs.Option.{option_or};
+ghost use Rattle.host_io.specs.Agreeing.{ForFiles};
 ghost use Rattle.host_io.specs.Calls.{AsksExactly};
 ghost use Rattle.host_io.specs.Causes.{StaysUnless};
 ghost use Rattle.dropin_merge.specs.Answers.{HasCause};
@@ -72,9 +73,9 @@ pub fn collect_winners<S: Shelf>(
 ) -> Result<Winners, ResolveError>
     ensures keeps_to_places { IfOk result (KeepsTo (map string_bytes places.now)) }
     ensures refuses_no_path { RefusesAt (λ _. ⊥) result }
-    ensures collects_the_winners { IfSome (S.told shelf.old) (λ files. CollectsWinners files (map string_bytes places.now) result) }
-    ensures asks_in_order { IfSome (S.told shelf.old) (λ files. AsksExactly S.asks shelf.old shelf.new (folder_asks files (map string_bytes places.now)) (course result)) }
-    ensures map_stays { S.told shelf.new ≡ S.told shelf.old }
+    ensures collects_the_winners { ForFiles (S.agrees shelf.new) (λ files. CollectsWinners files (map string_bytes places.now) result) }
+    ensures asks_in_order { ForFiles (S.agrees shelf.new) (λ files. AsksExactly S.asks shelf.old shelf.new (folder_asks files (map string_bytes places.now)) (course result)) }
+    ensures answers_stay { ForFiles (S.agrees shelf.new) (S.agrees shelf.old) }
     ensures fault_rose { HasCause (S.faults shelf.old) (S.faults shelf.new) result }
     ensures no_other_fault { StaysUnless ReadFault (S.faults shelf.old) (S.faults shelf.new) result }
 {

@@ -1,9 +1,9 @@
 -- One reader follows another: its calls follow the calls of the first.
-use Rattle.std.proofs.Common.{◌≡◌, Bool, true, false, cond, List, [], ◌∷◌, ◌++◌, map, Result, Ok, Err, Option, Some, None, refl, sym, ap}
+use Rattle.std.proofs.Common.{◌≡◌, Bool, true, false, cond, List, [], ◌∷◌, ◌++◌, map, Result, Ok, Err, refl, sym, ap}
 use Rattle.std.proofs.Common.{◌∙◌, subst, append_assoc, append-nil}
-use Rattle.std.specs.Prelude.{IfSome}
 use Rattle.std.proofs.lemmas.List.{map-append}
 use Rattle.host_io.specs.Files.{Files}
+use Rattle.host_io.specs.Agreeing.{ForFiles}
 use Rattle.host_io.specs.Calls.{Ask, ShelfCall, Calls, Course, Whole, Faulted, Cut, AsksExactly, answers, fails, answered, call_of, course_of}
 use Rattle.host_io.specs.Calls.{up_to}
 use Rattle.host_io.specs.declared.reading.ShelfError.{ShelfError}
@@ -97,31 +97,23 @@ module _ {S : Type 0} (asks : S → ShelfCall → S → Type 0) where
         going_stops a b c whole (ask x ∷ map ask (cond (is_last x) [] (up_to is_last xs))) Cut going
         (went_short b c (ask x ∷ []) (map ask (cond (is_last x) [] (up_to is_last xs))) Cut (λ e. cc) made)
 
--- a property of the files that the shelf shows
-pub if_told : (P Q : Files → Type 0) (told : Option Files) → ((files : Files) → P files → Q files) → IfSome told P → IfSome told Q
-if_told P Q None by h = tt
-if_told P Q (Some files) by h = by files h
+-- a property of the files that agree
+pub agreed_by : (P Q : Files → Type 0) (agrees : Files → Type 0) → ((files : Files) → P files → Q files) → ForFiles agrees P → ForFiles agrees Q
+agreed_by P Q agrees by h files agree = by files (h files agree)
 
-module _ {S : Type 0} (asks : S → ShelfCall → S → Type 0) (told : Option Files) where
+module _ {S : Type 0} (asks : S → ShelfCall → S → Type 0) (agrees : Files → Type 0) where
   -- a reader follows one that read everything, and this is all that follows it
-  pub told_behind : (a b c : S) (between : Option Files) (x y z : Files → List Ask) (course : Course) → between ≡ told
-      → IfSome told (λ files. AsksExactly asks a b (x files) Whole) → IfSome between (λ files. AsksExactly asks b c (y files) course)
-      → IfSome told (λ files. y files ≡ z files) → IfSome told (λ files. AsksExactly asks a c (x files ++ z files) course)
-  told_behind a b c between x y z course same first second tails =
-      by_told told (subst (λ o. IfSome o (λ files. AsksExactly asks b c (y files) course)) same second) first tails
-    where
-      by_told : (known : Option Files) → IfSome known (λ files. AsksExactly asks b c (y files) course)
-          → IfSome known (λ files. AsksExactly asks a b (x files) Whole) → IfSome known (λ files. y files ≡ z files)
-          → IfSome known (λ files. AsksExactly asks a c (x files ++ z files) course)
-      by_told None second first tails = tt
-      by_told (Some files) second first tails =
-          went_as asks a c (x files ++ y files) (x files ++ z files) course (ap (λ l. x files ++ l) tails)
-          (went_behind asks a b c (x files) (y files) course first second)
+  pub agreed_behind : (a b c : S) (between : Files → Type 0) (x y z : Files → List Ask) (course : Course) → ForFiles agrees between
+      → ForFiles between (λ files. AsksExactly asks a b (x files) Whole) → ForFiles agrees (λ files. AsksExactly asks b c (y files) course)
+      → ForFiles between (λ files. y files ≡ z files) → ForFiles agrees (λ files. AsksExactly asks a c (x files ++ z files) course)
+  agreed_behind a b c between x y z course stays first second tails files agree =
+      went_as asks a c (x files ++ y files) (x files ++ z files) course (ap (λ l. x files ++ l) (tails files (stays files agree)))
+      (went_behind asks a b c (x files) (y files) course (first files (stays files agree)) (second files agree))
 
   -- a reader stopped early, or nothing follows it
-  pub told_short : (a b : S) (x z : Files → List Ask) (course : Course) → IfSome told (λ files. AsksExactly asks a b (x files) course)
-      → IfSome told (λ files. course ≡ Whole → z files ≡ []) → IfSome told (λ files. AsksExactly asks a b (x files ++ z files) course)
-  told_short a b x z course made none = by_told told made none
+  pub agreed_short : (a b : S) (x z : Files → List Ask) (course : Course) → ForFiles agrees (λ files. AsksExactly asks a b (x files) course)
+      → ForFiles agrees (λ files. course ≡ Whole → z files ≡ []) → ForFiles agrees (λ files. AsksExactly asks a b (x files ++ z files) course)
+  agreed_short a b x z course made none files agree = by_course (x files) (z files) course (none files agree) (made files agree)
     where
       by_course : (xs zs : List Ask) (course : Course) → (course ≡ Whole → zs ≡ []) → AsksExactly asks a b xs course
           → AsksExactly asks a b (xs ++ zs) course
@@ -129,18 +121,7 @@ module _ {S : Type 0} (asks : S → ShelfCall → S → Type 0) (told : Option F
       by_course xs zs Faulted none made = went_short asks a b xs zs Faulted (λ e. cc) made
       by_course xs zs Cut none made = went_short asks a b xs zs Cut (λ e. cc) made
 
-      by_told : (known : Option Files) → IfSome known (λ files. AsksExactly asks a b (x files) course)
-          → IfSome known (λ files. course ≡ Whole → z files ≡ []) → IfSome known (λ files. AsksExactly asks a b (x files ++ z files) course)
-      by_told None made none = tt
-      by_told (Some files) made none = by_course (x files) (z files) course none made
-
 -- memory may run out after the last call
-pub told_cut : {S : Type 0} (asks : S → ShelfCall → S → Type 0) (told : Option Files) (a b : S) (x : Files → List Ask)
-    → IfSome told (λ files. AsksExactly asks a b (x files) Whole) → IfSome told (λ files. AsksExactly asks a b (x files) Cut)
-told_cut asks told a b x made = if_told (λ files. AsksExactly asks a b (x files) Whole) (λ files. AsksExactly asks a b (x files) Cut) told
-    (λ files whole. went_cut asks a b (x files) whole) made
-
--- a property that holds of any files
-pub all_told : (P : Files → Type 0) (told : Option Files) → ((files : Files) → P files) → IfSome told P
-all_told P None by = tt
-all_told P (Some files) by = by files
+pub agreed_cut : {S : Type 0} (asks : S → ShelfCall → S → Type 0) (agrees : Files → Type 0) (a b : S) (x : Files → List Ask)
+    → ForFiles agrees (λ files. AsksExactly asks a b (x files) Whole) → ForFiles agrees (λ files. AsksExactly asks a b (x files) Cut)
+agreed_cut asks agrees a b x made files agree = went_cut asks a b (x files) (made files agree)

@@ -11,7 +11,6 @@ use Rattle.std.proofs.lemmas.Slice.Eq.{bytes_eq-Decides, starts_is}
 use Rattle.std.proofs.lemmas.Bool.{false≢true}
 use Rattle.std.proofs.lemmas.Bool.Decides.{Decides-eqb}
 use Rattle.host_io.specs.Files.{Files, bytes_at, is_new_path, is_file_map, behind, as_name, name_in, names_in}
-use Rattle.host_io.specs.MemoryFiles.{told_files}
 use Rattle.host_io.specs.Reading.{Lists}
 
 -- a value that a test lets through is that value
@@ -92,18 +91,12 @@ names_in-distinct (file ∷ files) folder e =
     distinct_more folder file.0 (name_in folder file.0) files refl new.1 (names_in-distinct files folder parts.1)
 
 -- the answer of a shelf in memory to a listing that finds some names, and not too many
-lists_by : (files : Files) (folder : List ℕ) (names : Vec (String Global) Global) (b : Bool) → is_file_map files ≡ b
+pub lists_names : (files : Files) (folder : List ℕ) (names : Vec (String Global) Global) → is_file_map files ≡ true
     → map string_bytes names.items ≡ names_in files folder → 0 < length (names_in files folder) → length (names_in files folder) ≤ 4096
-    → Lists (cond b (Some files) None) folder (Ok names)
-lists_by files folder names false e is some few = tt
-lists_by files folder names true e is some few = record {
+    → Lists files folder (Ok names)
+lists_names files folder names e is some few = record {
   names_of_the_folder = subst (IsPermutation (names_in files folder)) (sym is) (IsPermutation-refl (names_in files folder));
   each_once = names_in-distinct files folder e;
   some_name = some;
   not_too_many = few;
 }
-
-pub lists_names : (files : Files) (folder : List ℕ) (names : Vec (String Global) Global)
-    → map string_bytes names.items ≡ names_in files folder → 0 < length (names_in files folder) → length (names_in files folder) ≤ 4096
-    → Lists (told_files files) folder (Ok names)
-lists_names files folder names is some few = lists_by files folder names (is_file_map files) refl is some few

@@ -3,3 +3,4 @@ pub mod Names
 pub mod Calling
 pub mod Putting
 pub mod FolderNames
+mod Walks

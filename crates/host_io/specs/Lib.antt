@@ -1,7 +1,10 @@
 pub mod Causes
 pub mod Calls
 pub mod Files
+pub mod Agreeing
 pub mod Reading
+pub mod Heard
+pub mod Noting
 pub mod Turns
 pub mod Writing
 pub mod Puts

@@ -1,4 +1,4 @@
--- A shelf that shows its files answers by them.
+-- A shelf answers by the files that agree with it.
 use Rattle.std.specs.Prelude.{Vec, String, string_bytes, ◌≡◌, ◌<◌, ℕ, ◌≤◌, List, length, map, IsErrOf, Option, Some, None, Result, Ok, Err}
 use Rattle.std.specs.Prelude.{⊤}
 use Rattle.std.specs.List.{IsDistinct}
@@ -36,15 +36,13 @@ AnswersFolder names (Err TooLarge) = 4096 < length names
 AnswersFolder names (Err Failed) = ⊤
 AnswersFolder names (Err Memory) = ⊤
 
--- the answer of a read over the files that the shelf shows
-abbrev pub Reads : Option Files → List ℕ → ℕ → Result (Vec ℕ Global) ShelfError → Type 0
-Reads None path limit result = ⊤
-Reads (Some files) path limit result = AnswersFile (bytes_at files path) limit result
+-- the answer of a read over these files
+abbrev pub Reads : Files → List ℕ → ℕ → Result (Vec ℕ Global) ShelfError → Type 0
+Reads files path limit result = AnswersFile (bytes_at files path) limit result
 
--- the answer of a listing over the files that the shelf shows
-abbrev pub Lists : Option Files → List ℕ → Result (Vec (String Global) Global) ShelfError → Type 0
-Lists None folder result = ⊤
-Lists (Some files) folder result = AnswersFolder (names_in files folder) result
+-- the answer of a listing over these files
+abbrev pub Lists : Files → List ℕ → Result (Vec (String Global) Global) ShelfError → Type 0
+Lists files folder result = AnswersFolder (names_in files folder) result
 
 -- the count of faults does not fall, and it rises if the answer is `Failed`
 pub record HasCause {T : Type 0} (before now : ℕ) (result : Result T ShelfError) : Type 0 where

@@ -1,13 +1,14 @@
 //! Reads files from the outside world and writes bytes to it.
 //!
 //! A `Shelf` reads files and a `Sink` takes bytes. Both count the faults of the outside world: the count rises with an answer
-//! `Failed`, and any other answer leaves it. A shelf may show the map from paths to bytes that it reads from, and a sink may
-//! show the bytes that it took. Every promise on texts rests on that map and those bytes.
+//! `Failed`, and any other answer leaves it. Maps from paths to bytes agree with a shelf if they give all answers that it has given,
+//! and a sink may show the bytes that it took. Every promise on texts rests on those maps and those bytes.
 //!
-//! `DirShelf` and `StdSink` are the real folder and the real output, which show nothing. `MemShelf` and `MemSink` are kept in
-//! memory, and their calls with given numbers fail.
+//! `DirShelf` and `StdSink` are the real folder and the real output. The folder remembers its answers, for proofs alone, and the
+//! output shows nothing. `MemShelf` and `MemSink` are kept in memory, and their calls with given numbers fail.
 #![tactic(auto)]
 
+mod heard;
 mod memory_files;
 mod memory_output;
 mod reading;

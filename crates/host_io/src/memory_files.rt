@@ -1,13 +1,14 @@
 //! Implements a shelf in memory. Its calls with given numbers fail.
 //!
-//! The shelf shows its map. It numbers its calls of `read` and `list` together, from 1.
+//! Its own files alone agree with it. It numbers its calls of `read` and `list` together, from 1.
 ghost use Rattle.std.specs.Prelude.{◌≡◌, ◌≤◌, ◌↔◌, map, IfOk, IsTrue, IsErrOf, vec_len, string_bytes};
 ghost use Rattle.std.specs.Option.{option_map};
 ghost use Rattle.host_io.specs.declared.reading.ShelfError.TheVariants.{Failed};
+ghost use Rattle.host_io.specs.Agreeing.{ForFiles};
 ghost use Rattle.host_io.specs.Calls.{FileAt, NamesIn, call_of};
 ghost use Rattle.host_io.specs.Causes.{StaysUnless};
 ghost use Rattle.host_io.specs.Files.{is_file_map, is_new_path, behind, bytes_at, name_in, names_in};
-ghost use Rattle.host_io.specs.MemoryFiles.{AsksMemory, file_of, told_files};
+ghost use Rattle.host_io.specs.MemoryFiles.{AgreesMemory, AsksMemory, file_of};
 ghost use Rattle.host_io.specs.Reading.{Reads, Lists, HasCause};
 ghost use Rattle.host_io.specs.Turns.{fails_now, after_turn};
 
@@ -114,21 +115,22 @@ fn names_of(
 }
 
 impl Shelf for MemShelf {
-    ghost use Rattle.host_io.specs.MemoryFiles.{AsksMemory, told_files, told_files-is_file_map};
+    ghost use Rattle.host_io.specs.MemoryFiles.{AgreesMemory, AsksMemory};
 
-    ghost told = { λ shelf. told_files shelf.files };
+    ghost agrees = { AgreesMemory };
 
     ghost faults = { λ shelf. shelf.turns.faults };
 
     ghost asks = { AsksMemory };
 
-    ghost tells_a_map = { λ shelf. told_files-is_file_map shelf.files };
+    ghost agrees_with_maps = { λ shelf files agree. agree.is_a_map };
 
     fn read(&mut self, alloc: Global, path: &str, limit: u64) -> Result<Vec<u8>, ShelfError>
-        ensures answers_by_the_map { Reads (told_files self.old.files) path.now limit result }
+        ensures answers_by_the_files { ForFiles (AgreesMemory self.new) (λ files. Reads files path.now limit result) }
         ensures asks_for_it { AsksMemory self.old (call_of (FileAt path.now limit) result) self.new }
         ensures within_limit { IfOk result (λ bytes. vec_len bytes ≤ limit) }
-        ensures map_stays { told_files self.new.files ≡ told_files self.old.files }
+        ensures answers_stay { ForFiles (AgreesMemory self.new) (AgreesMemory self.old) }
+        ensures nothing_else_counts { ForFiles (AgreesMemory self.old) (λ files. Reads files path.now limit result → AgreesMemory self.new files) }
         ensures fault_rose { HasCause self.old.turns.faults self.new.turns.faults result }
         ensures no_other_fault { StaysUnless Failed self.old.turns.faults self.new.turns.faults result }
         ensures fails_as_told { IsErrOf result Failed ↔ IsTrue (fails_now self.old.turns) }
@@ -145,10 +147,11 @@ impl Shelf for MemShelf {
     }
 
     fn list(&mut self, alloc: Global, dir: &str) -> Result<Vec<String>, ShelfError>
-        ensures answers_by_the_map { Lists (told_files self.old.files) dir.now result }
+        ensures answers_by_the_files { ForFiles (AgreesMemory self.new) (λ files. Lists files dir.now result) }
         ensures asks_for_it { AsksMemory self.old (call_of (NamesIn dir.now) result) self.new }
         ensures within_limit { IfOk result (λ names. vec_len names ≤ 4096) }
-        ensures map_stays { told_files self.new.files ≡ told_files self.old.files }
+        ensures answers_stay { ForFiles (AgreesMemory self.new) (AgreesMemory self.old) }
+        ensures nothing_else_counts { ForFiles (AgreesMemory self.old) (λ files. Lists files dir.now result → AgreesMemory self.new files) }
         ensures fault_rose { HasCause self.old.turns.faults self.new.turns.faults result }
         ensures no_other_fault { StaysUnless Failed self.old.turns.faults self.new.turns.faults result }
         ensures fails_as_told { IsErrOf result Failed ↔ IsTrue (fails_now self.old.turns) }

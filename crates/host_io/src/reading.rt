@@ -1,7 +1,9 @@
 //! Defines the trait `Shelf`, which reads files, and its errors.
 //!
-//! Contracts describe a shelf by a count of faults, by its state after a call, and, if it shows one, by a map from paths to bytes.
-ghost use Rattle.std.specs.Prelude.{◌≡◌, ℕ, ◌≤◌, Option, IfOk, IfSome, IsTrue, vec_len};
+//! Contracts describe a shelf by a count of faults, by its state after a call, and by the maps from paths to bytes that agree
+//! with all answers so far.
+ghost use Rattle.std.specs.Prelude.{ℕ, ◌≤◌, IfOk, IsTrue, vec_len};
+ghost use Rattle.host_io.specs.Agreeing.{ForFiles};
 ghost use Rattle.host_io.specs.declared.reading.ShelfError.TheVariants.{Failed};
 ghost use Rattle.host_io.specs.Calls.{FileAt, NamesIn, ShelfCall, call_of};
 ghost use Rattle.host_io.specs.Causes.{StaysUnless};
@@ -30,8 +32,8 @@ pub enum ShelfError {
 
 /// A reader of files. Paths are relative: none begins with a slash.
 pub trait Shelf {
-    /// The files, if the shelf shows them.
-    ghost told: { Self → Option Files };
+    /// The files agree with all answers that the shelf has given so far.
+    ghost agrees: { Self → Files → Type 0 };
 
     /// How often the outside world has failed.
     ghost faults: { Self → ℕ };
@@ -48,10 +50,11 @@ pub trait Shelf {
     /// - `Failed`: the outside world failed, and only then the count of faults rises;
     /// - `Memory`: memory ran out.
     fn read(&mut self, alloc: Global, path: &str, limit: u64) -> Result<Vec<u8>, ShelfError>
-        ensures answers_by_the_map { Reads (told self.old) path.now limit result }
+        ensures answers_by_the_files { ForFiles (agrees self.new) (λ files. Reads files path.now limit result) }
         ensures asks_for_it { asks self.old (call_of (FileAt path.now limit) result) self.new }
         ensures within_limit { IfOk result (λ bytes. vec_len bytes ≤ limit) }
-        ensures map_stays { told self.new ≡ told self.old }
+        ensures answers_stay { ForFiles (agrees self.new) (agrees self.old) }
+        ensures nothing_else_counts { ForFiles (agrees self.old) (λ files. Reads files path.now limit result → agrees self.new files) }
         ensures fault_rose { HasCause (faults self.old) (faults self.new) result }
         ensures no_other_fault { StaysUnless Failed (faults self.old) (faults self.new) result };
 
@@ -63,13 +66,14 @@ pub trait Shelf {
     /// - `Failed`: the outside world failed, and only then the count of faults rises;
     /// - `Memory`: memory ran out.
     fn list(&mut self, alloc: Global, dir: &str) -> Result<Vec<String>, ShelfError>
-        ensures answers_by_the_map { Lists (told self.old) dir.now result }
+        ensures answers_by_the_files { ForFiles (agrees self.new) (λ files. Lists files dir.now result) }
         ensures asks_for_it { asks self.old (call_of (NamesIn dir.now) result) self.new }
         ensures within_limit { IfOk result (λ names. vec_len names ≤ 4096) }
-        ensures map_stays { told self.new ≡ told self.old }
+        ensures answers_stay { ForFiles (agrees self.new) (agrees self.old) }
+        ensures nothing_else_counts { ForFiles (agrees self.old) (λ files. Lists files dir.now result → agrees self.new files) }
         ensures fault_rose { HasCause (faults self.old) (faults self.new) result }
         ensures no_other_fault { StaysUnless Failed (faults self.old) (faults self.new) result };
 
-    /// No path of the map that a shelf shows begins with a slash or occurs twice.
-    ghost tells_a_map: { (shelf : Self) → IfSome (told shelf) (λ files. IsTrue (is_file_map files)) };
+    /// No path of files that agree begins with a slash or occurs twice.
+    ghost agrees_with_maps: { (shelf : Self) → ForFiles (agrees shelf) (λ files. IsTrue (is_file_map files)) };
 }

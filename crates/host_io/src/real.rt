@@ -1,15 +1,18 @@
 //! Reads the folder that the program runs in, and writes its standard output: the trusted edge.
 //!
-//! Neither shows its contents. A missing file, exhausted memory and a signal in the middle of a write are no faults; every
+//! The folder remembers its answers, for proofs alone, and the output shows nothing. A missing file, exhausted memory and a signal in the middle of a write are no faults; every
 //! other error of the system is one.
-ghost use Rattle.std.specs.Prelude.{◌≡◌, ◌≢◌, ◌≤◌, None, Err, IfOk, IsTrue, length, vec_len};
+ghost use Rattle.std.specs.Prelude.{◌≡◌, ◌≢◌, ◌≤◌, [], ◌∷◌, None, Err, IfOk, IsTrue, length, vec_len};
 ghost use Rattle.host_io.specs.declared.reading.ShelfError.TheVariants.{Missing, Failed};
+ghost use Rattle.host_io.specs.Agreeing.{ForFiles};
 ghost use Rattle.host_io.specs.Calls.{AsksOutside, FileAt, NamesIn, call_of};
 ghost use Rattle.host_io.specs.Causes.{Rose, StaysUnless};
 ghost use Rattle.host_io.specs.Files.{begins_with_slash};
+ghost use Rattle.host_io.specs.Heard.{AgreesWith, file_answer, folder_answer};
 ghost use Rattle.host_io.specs.Puts.{PutsOutside};
 ghost use Rattle.host_io.specs.Reading.{Reads, Lists, HasCause};
 
+use crate::heard::{Heard, Said};
 use crate::reading::{Shelf, ShelfError};
 use crate::writing::{Sink, SinkError};
 use std::alloc::Global;
@@ -34,14 +37,20 @@ const NULL_DEVICE: u64 = 0x103;
 pub struct DirShelf<R: Files + AllocGlobal + Clone + Drop> {
     rt: R,
     faults: u64,
+    heard: Heard,
 }
 
 impl<R: Files + AllocGlobal + Clone + Drop> DirShelf<R> {
-    /// Makes a shelf over the current folder, with no fault so far.
+    /// Makes a shelf over the current folder, with no fault and no answer so far.
     pub fn new(rt: R) -> Self
         ensures no_fault_so_far { result.faults ≡ 0 }
+        ensures no_answer_so_far { result.heard.answers ≡ [] }
     {
-        DirShelf { rt, faults: 0 }
+        DirShelf {
+            rt,
+            faults: 0,
+            heard: Heard::new(),
+        }
     }
 
     // Returns the answer for an error of the system: out of memory, or a fault, which it counts.
@@ -49,12 +58,56 @@ impl<R: Files + AllocGlobal + Clone + Drop> DirShelf<R> {
         ensures later { self.old.faults ≤ self.new.faults }
         ensures failed { result ≡ Failed → Rose self.old.faults self.new.faults }
         ensures no_other_fault { result ≢ Failed → self.new.faults ≡ self.old.faults }
+        ensures no_answer { self.new.heard.answers ≡ self.old.heard.answers }
     {
         if kind == ErrorKind::OutOfMemory {
             return ShelfError::Memory;
         }
         self.faults = self.faults.saturating_add(1);
         ShelfError::Failed
+    }
+
+    // Reads the file at the path, which may have at most `limit` bytes.
+    fn read_outside(
+        &mut self,
+        alloc: Global,
+        path: &str,
+        limit: u64,
+    ) -> Result<Vec<u8>, ShelfError>
+        ensures within_limit { IfOk result (λ bytes. vec_len bytes ≤ limit) }
+        ensures fault_rose { HasCause self.old.faults self.new.faults result }
+        ensures no_other_fault { StaysUnless Failed self.old.faults self.new.faults result }
+        ensures slash_is_missing { IsTrue (begins_with_slash path.now) → result ≡ Err Missing }
+        ensures no_answer { self.new.heard.answers ≡ self.old.heard.answers }
+    {
+        if path.starts_with('/') {
+            return Err(ShelfError::Missing);
+        }
+        match read_file(&self.rt, alloc, path, limit.saturating_add(1)) {
+            Ok(None) => Err(ShelfError::Missing),
+            Ok(Some(bytes)) if bytes.len() as u64 > limit => Err(ShelfError::TooLarge),
+            Ok(Some(bytes)) => Ok(bytes),
+            Err(error) => Err(self.answer(error.kind())),
+        }
+    }
+
+    // Returns the names of the files directly in the folder.
+    fn list_outside(&mut self, alloc: Global, dir: &str) -> Result<Vec<String>, ShelfError>
+        ensures within_limit { IfOk result (λ names. vec_len names ≤ 4096) }
+        ensures fault_rose { HasCause self.old.faults self.new.faults result }
+        ensures no_other_fault { StaysUnless Failed self.old.faults self.new.faults result }
+        ensures slash_is_missing { IsTrue (begins_with_slash dir.now) → result ≡ Err Missing }
+        ensures no_answer { self.new.heard.answers ≡ self.old.heard.answers }
+    {
+        if dir.starts_with('/') {
+            return Err(ShelfError::Missing);
+        }
+        match read_names(&self.rt, alloc, dir, MOST_NAMES + 1) {
+            Ok(names) if names.is_empty() => Err(ShelfError::Missing),
+            Ok(names) if names.len() > MOST_NAMES => Err(ShelfError::TooLarge),
+            Ok(names) => Ok(names),
+            Err(error) => Err(self.answer(error.kind())),
+        }
     }
 }
 
@@ -125,50 +178,44 @@ fn read_names<R: Files + AllocGlobal + Clone + Drop>(
 }
 
 impl<R: Files + AllocGlobal + Clone + Drop> Shelf for DirShelf<R> {
-    ghost told = { λ _. None };
+    ghost agrees = { λ shelf. AgreesWith shelf.heard.answers };
 
     ghost faults = { λ shelf. shelf.faults };
 
     ghost asks = { λ before call now. AsksOutside before.faults call now.faults };
 
-    ghost tells_a_map = { λ _. tt };
+    ghost agrees_with_maps = { λ shelf files agree. agree.0 };
 
     fn read(&mut self, alloc: Global, path: &str, limit: u64) -> Result<Vec<u8>, ShelfError>
-        ensures answers_by_the_map { Reads None path.now limit result }
+        ensures answers_by_the_files { ForFiles (AgreesWith self.new.heard.answers) (λ files. Reads files path.now limit result) }
         ensures asks_for_it { AsksOutside self.old.faults (call_of (FileAt path.now limit) result) self.new.faults }
         ensures within_limit { IfOk result (λ bytes. vec_len bytes ≤ limit) }
+        ensures answers_stay { ForFiles (AgreesWith self.new.heard.answers) (AgreesWith self.old.heard.answers) }
+        ensures nothing_else_counts { ForFiles (AgreesWith self.old.heard.answers) (λ files. Reads files path.now limit result → AgreesWith self.new.heard.answers files) }
         ensures fault_rose { HasCause self.old.faults self.new.faults result }
         ensures no_other_fault { StaysUnless Failed self.old.faults self.new.faults result }
         ensures slash_is_missing { IsTrue (begins_with_slash path.now) → result ≡ Err Missing }
+        ensures remembers_the_answer { self.new.heard.answers ≡ file_answer path.now limit result ∷ self.old.heard.answers }
     {
-        if path.starts_with('/') {
-            return Err(ShelfError::Missing);
-        }
-        match read_file(&self.rt, alloc, path, limit.saturating_add(1)) {
-            Ok(None) => Err(ShelfError::Missing),
-            Ok(Some(bytes)) if bytes.len() as u64 > limit => Err(ShelfError::TooLarge),
-            Ok(Some(bytes)) => Ok(bytes),
-            Err(error) => Err(self.answer(error.kind())),
-        }
+        let result = self.read_outside(alloc, path, limit);
+        self.heard = self.heard.and(&Said::File(path, limit, &result));
+        result
     }
 
     fn list(&mut self, alloc: Global, dir: &str) -> Result<Vec<String>, ShelfError>
-        ensures answers_by_the_map { Lists None dir.now result }
+        ensures answers_by_the_files { ForFiles (AgreesWith self.new.heard.answers) (λ files. Lists files dir.now result) }
         ensures asks_for_it { AsksOutside self.old.faults (call_of (NamesIn dir.now) result) self.new.faults }
         ensures within_limit { IfOk result (λ names. vec_len names ≤ 4096) }
+        ensures answers_stay { ForFiles (AgreesWith self.new.heard.answers) (AgreesWith self.old.heard.answers) }
+        ensures nothing_else_counts { ForFiles (AgreesWith self.old.heard.answers) (λ files. Lists files dir.now result → AgreesWith self.new.heard.answers files) }
         ensures fault_rose { HasCause self.old.faults self.new.faults result }
         ensures no_other_fault { StaysUnless Failed self.old.faults self.new.faults result }
         ensures slash_is_missing { IsTrue (begins_with_slash dir.now) → result ≡ Err Missing }
+        ensures remembers_the_answer { self.new.heard.answers ≡ folder_answer dir.now result ∷ self.old.heard.answers }
     {
-        if dir.starts_with('/') {
-            return Err(ShelfError::Missing);
-        }
-        match read_names(&self.rt, alloc, dir, MOST_NAMES + 1) {
-            Ok(names) if names.is_empty() => Err(ShelfError::Missing),
-            Ok(names) if names.len() > MOST_NAMES => Err(ShelfError::TooLarge),
-            Ok(names) => Ok(names),
-            Err(error) => Err(self.answer(error.kind())),
-        }
+        let result = self.list_outside(alloc, dir);
+        self.heard = self.heard.and(&Said::Folder(dir, &result));
+        result
     }
 }
 

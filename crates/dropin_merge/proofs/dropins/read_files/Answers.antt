@@ -13,7 +13,7 @@ use Rattle.dropin_merge.proofs.dropins.read_files.Goals as goal
 
 pub returns-then-len-gt-MOST_DROPINS-clause-reads_the_files : goal.returns-then-len-gt-MOST_DROPINS-clause-reads_the_files
 returns-then-len-gt-MOST_DROPINS-clause-reads_the_files g c =
-    refuses_many (g.S.Shelf.told c.args.shelf.now) c.args.unit.now
+    refuses_many (g.S.Shelf.agrees c.collect_winners.new.shelf) c.args.unit.now
     (map string_bytes c.as_slice.result.now) c.in_ok-winners.winners c.args.fragment
     (ap (map string_bytes) c.as_slice.ensures.value ∙ c.in_ok-places.ensures.in_order) c.len.ensures.ordered
     c.in_ok-winners.ensures.collects_the_winners
@@ -21,13 +21,13 @@ returns-then-len-gt-MOST_DROPINS-clause-reads_the_files g c =
 
 pub returns-clause-reads_the_files : goal.returns-clause-reads_the_files
 returns-clause-reads_the_files g c =
-    reads_winners (g.S.Shelf.told c.args.shelf.now) c.args.unit.now
+    reads_winners (g.S.Shelf.agrees c.collect_winners.new.shelf) (g.S.Shelf.agrees c.read_dropins.new.shelf) c.read_dropins.ensures.answers_stay c.args.unit.now
     (map string_bytes c.as_slice.result.now) c.in_ok-winners.winners c.args.fragment c.as_slice-2.result.now c.read_dropins.result
     (ap (map string_bytes) c.as_slice.ensures.value ∙ c.in_ok-places.ensures.in_order) c.len.ensures.ordered
     c.in_ok-winners.ensures.collects_the_winners
     (omega (arith, c.if-len-gt-MOST_DROPINS.false, c.len.ensures.len))
     (c.as_slice-2.ensures.value ∙ c.in_ok-paths.ensures.by_their_names)
-    (rw c.in_ok-winners.ensures.map_stays at c.read_dropins.ensures.reads_in_order)
+    c.read_dropins.ensures.reads_in_order
 
 pub returns-clause-has_the_dropins : goal.returns-clause-has_the_dropins
 returns-clause-has_the_dropins g c =
@@ -53,13 +53,13 @@ pub returns-in_err-winners-clause-asks_in_order : goal.returns-in_err-winners-cl
 returns-in_err-winners-clause-asks_in_order g c =
     let p = err_from_is_err_and c.from_residual-in_err-winners.result c.from_residual-in_err-winners.ensures.1 in
     rw (p.1, p.2)
-    (folders_stop g.S.Shelf.asks (g.S.Shelf.told c.args.shelf.now) c.args.unit.now c.args.shelf.now _
+    (folders_stop g.S.Shelf.asks (g.S.Shelf.agrees c.collect_winners.new.shelf) c.args.unit.now c.args.shelf.now _
     (map string_bytes c.as_slice.result.now) (ap (map string_bytes) c.as_slice.ensures.value ∙ c.in_ok-places.ensures.in_order)
     c.in_err-winners.field-0.0 c.in_err-winners.ensures.collects_the_winners c.in_err-winners.ensures.asks_in_order)
 
 pub returns-then-len-gt-MOST_DROPINS-clause-asks_in_order : goal.returns-then-len-gt-MOST_DROPINS-clause-asks_in_order
 returns-then-len-gt-MOST_DROPINS-clause-asks_in_order g c =
-    folders_alone g.S.Shelf.asks (g.S.Shelf.told c.args.shelf.now) c.args.unit.now c.args.shelf.now _
+    folders_alone g.S.Shelf.asks (g.S.Shelf.agrees c.collect_winners.new.shelf) c.args.unit.now c.args.shelf.now _
     (map string_bytes c.as_slice.result.now) (ap (map string_bytes) c.as_slice.ensures.value ∙ c.in_ok-places.ensures.in_order)
     c.in_ok-winners.winners c.len.ensures.ordered c.in_ok-winners.ensures.collects_the_winners c.in_ok-winners.ensures.asks_in_order
     (omega (arith, c.if-len-gt-MOST_DROPINS.true, c.len.ensures.len))
@@ -68,14 +68,14 @@ pub returns-in_err-paths-clause-asks_in_order : goal.returns-in_err-paths-clause
 returns-in_err-paths-clause-asks_in_order g c =
     let p = err_from_is_err_and c.from_residual-in_err-paths.result c.from_residual-in_err-paths.ensures.1 in
     rw (p.1, p.2)
-    (folders_cut g.S.Shelf.asks (g.S.Shelf.told c.args.shelf.now) c.args.unit.now c.args.shelf.now _
+    (folders_cut g.S.Shelf.asks (g.S.Shelf.agrees c.collect_winners.new.shelf) c.args.unit.now c.args.shelf.now _
     (map string_bytes c.as_slice.result.now) (ap (map string_bytes) c.as_slice.ensures.value ∙ c.in_ok-places.ensures.in_order)
     c.in_ok-winners.ensures.asks_in_order)
 
 pub returns-clause-asks_in_order : goal.returns-clause-asks_in_order
 returns-clause-asks_in_order g c =
-    dropins_behind g.S.Shelf.asks (g.S.Shelf.told c.args.shelf.now) c.args.unit.now c.args.shelf.now _
+    dropins_behind g.S.Shelf.asks (g.S.Shelf.agrees c.collect_winners.new.shelf) c.args.unit.now c.args.shelf.now _
     (map string_bytes c.as_slice.result.now) (ap (map string_bytes) c.as_slice.ensures.value ∙ c.in_ok-places.ensures.in_order)
     c.in_ok-winners.winners c.len.ensures.ordered c.in_ok-winners.ensures.collects_the_winners c.in_ok-winners.ensures.asks_in_order
-    _ _ c.as_slice-2.result.now _ c.in_ok-winners.ensures.map_stays (omega (arith, c.if-len-gt-MOST_DROPINS.false, c.len.ensures.len))
+    _ (g.S.Shelf.agrees c.read_dropins.new.shelf) c.as_slice-2.result.now _ c.read_dropins.ensures.answers_stay (omega (arith, c.if-len-gt-MOST_DROPINS.false, c.len.ensures.len))
     (c.as_slice-2.ensures.value ∙ c.in_ok-paths.ensures.by_their_names) c.read_dropins.ensures.asks_in_order

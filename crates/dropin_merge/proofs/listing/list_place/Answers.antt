@@ -6,7 +6,7 @@ use Rattle.dropin_merge.proofs.Collected.{lists_place}
 use Rattle.dropin_merge.proofs.listing.list_place.Goals as goal
 
 pub returns-in-Ok-clause-lists_the_folder : goal.returns-in-Ok-clause-lists_the_folder
-returns-in-Ok-clause-lists_the_folder g c = lists_place (g.S.Shelf.told c.args.shelf.now) c.args.place.now c.in-Ok.names c.in-Ok.ensures.answers_by_the_map
+returns-in-Ok-clause-lists_the_folder g c = lists_place (g.S.Shelf.agrees c.list.new.self) c.args.place.now c.in-Ok.names c.in-Ok.ensures.answers_by_the_files
 
 pub returns-in-Err-Failed-clause-asks_for_it : goal.returns-in-Err-Failed-clause-asks_for_it
 returns-in-Err-Failed-clause-asks_for_it g c =

@@ -1,5 +1,5 @@
 use Rattle.std.proofs.Common.{◌≡◌, Some, subst, sym}
-use Rattle.std.specs.Prelude.{IfSome}
+use Rattle.host_io.specs.Agreeing.{ForFiles}
 use Rattle.host_io.specs.Calls.{AsksExactly}
 use Rattle.unit_names.specs.Cutting.{name_of}
 use Rattle.dropin_merge.specs.Asking.{course, name_asks}
@@ -8,6 +8,6 @@ use Rattle.dropin_merge.proofs.resolving.resolve_text.Goals as goal
 pub returns-in-Ok-clause-asks_in_order : goal.returns-in-Ok-clause-asks_in_order
 returns-in-Ok-clause-asks_in_order g c =
     let named : name_of c.args.text.now ≡ Some c.in-Ok.unit = c.in-Ok.ensures.reads_the_name in
-    subst (λ name. IfSome (g.S.Shelf.told c.args.shelf.now)
+    subst (λ name. ForFiles (g.S.Shelf.agrees c.resolve_unit.new.shelf)
     (λ files. AsksExactly g.S.Shelf.asks c.args.shelf.now c.resolve_unit.new.shelf (name_asks files name) (course c.resolve_unit.result)))
     (sym named) c.resolve_unit.ensures.asks_in_order
