@@ -1,7 +1,7 @@
 -- What `check` prints, by the files.
-use Rattle.std.specs.Prelude.{◌≡◌, ◌⊎◌, ℕ, IsSome, List, Option, Some, None, Ok, Err}
+use Rattle.std.specs.Prelude.{◌≡◌, ◌⊎◌, ℕ, IsSome, List, Ok, Err}
 use Rattle.unit_inputs.specs.host_io.Files.{Files}
-use Rattle.unit_inputs.specs.command_answers.Laws.{Laws}
+use Rattle.unit_inputs.specs.command_answers.Laws.{Laws, LawsByFiles, over_files}
 use Rattle.unit_inputs.specs.declared.command_answers.exit_status.ExitStatus.{ExitStatus}
 use Rattle.unit_inputs.specs.declared.command_answers.exit_status.ExitStatus.TheVariants.{Done, Refused, Differs}
 use Rattle.filter_check.specs.declared.outcome.Outcome.{Outcome}
@@ -15,28 +15,19 @@ pub data Admits (files : Files) (unit name path : List ℕ) : ExitStatus → Lis
   tells : (outcome : Outcome) → Answers files unit name path (Ok outcome)
       → Admits files unit name path (status_by outcome) (outcome_text outcome)
 
--- where the files are not told, only the endings are known
-abbrev pub MayEndUntold : ExitStatus → Type 0
-MayEndUntold status = (status ≡ Refused) ⊎ ((status ≡ Done) ⊎ (status ≡ Differs))
+-- the statuses of the command, whatever the files are
+abbrev pub MayBe : ExitStatus → Type 0
+MayBe status = (status ≡ Refused) ⊎ ((status ≡ Done) ⊎ (status ≡ Differs))
 
-abbrev pub admits_over : Option Files → List ℕ → List ℕ → List ℕ → ExitStatus → List ℕ → Type 0
-admits_over None unit name path status text = MayEndUntold status
-admits_over (Some files) unit name path status text = Admits files unit name path status text
-
--- a run may end like this if and only if a text with this ending is admitted
-abbrev pub may_end_over : Option Files → List ℕ → List ℕ → List ℕ → ExitStatus → Type 0
-may_end_over None unit name path status = MayEndUntold status
-may_end_over (Some files) unit name path status = (text : List ℕ) × Admits files unit name path status text
-
--- nothing is refused
-abbrev pub accepts_over : Option Files → List ℕ → List ℕ → List ℕ → Type 0
-accepts_over None unit name path = ⊥
-accepts_over (Some files) unit name path = (outcome : Outcome) × Answers files unit name path (Ok outcome)
-
-abbrev pub check_laws : Option Files → List ℕ → List ℕ → List ℕ → Laws
-check_laws told unit name path = record {
-  admits = admits_over told unit name path;
-  may_end = may_end_over told unit name path;
-  accepts = accepts_over told unit name path;
+-- a run may end like this if and only if a text with this ending is admitted, and everything is accepted if nothing is refused
+abbrev pub check_by_files : List ℕ → List ℕ → List ℕ → LawsByFiles
+check_by_files unit name path = record {
+  may_be = MayBe;
+  admits = λ files status text. Admits files unit name path status text;
+  may_end = λ files status. (text : List ℕ) × Admits files unit name path status text;
+  accepts = λ files. (outcome : Outcome) × Answers files unit name path (Ok outcome);
   reads = IsSome (name_of unit);
 }
+
+abbrev pub check_laws : (Files → Type 0) → List ℕ → List ℕ → List ℕ → Laws
+check_laws agrees unit name path = over_files agrees (check_by_files unit name path)

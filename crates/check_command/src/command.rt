@@ -24,9 +24,9 @@ pub fn prepare<S: Shelf>(
     name: &str,
     path: &str,
 ) -> Result<Checked, CommandError>
-    ensures prepares { IsAdmitted (check_laws (S.told shelf.old) unit.now name.now path.now) status_of checked_text result }
-    ensures asks_in_order { AsksInOrder S.asks (S.told shelf.old) (λ files. asks_with_file files unit.now path.now) shelf.old shelf.new (course result) }
-    ensures reads_for_the_unit { ReadsFor S.told S.faults unit.now shelf.old shelf.new result }
+    ensures prepares { IsAdmitted (check_laws (S.agrees shelf.new) unit.now name.now path.now) status_of checked_text result }
+    ensures asks_in_order { AsksInOrder S.asks (S.agrees shelf.new) (λ files. asks_with_file files unit.now path.now) shelf.old shelf.new (course result) }
+    ensures reads_for_the_unit { ReadsFor S.agrees S.faults unit.now shelf.old shelf.new result }
 {
     let prepared = read_all(alloc, shelf, unit, path)?;
     compare(alloc, unit, name, path, &prepared)

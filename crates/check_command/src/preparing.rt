@@ -1,5 +1,6 @@
 //! What `check` reads, and what it takes from that.
-ghost use Rattle.std.specs.Prelude.{IfOk, IfSome};
+ghost use Rattle.std.specs.Prelude.{IfOk};
+ghost use Rattle.unit_inputs.specs.host_io.Agreeing.{ForFiles};
 ghost use Rattle.unit_inputs.specs.command_answers.Asking.{course};
 ghost use Rattle.unit_inputs.specs.Asking.{AsksInOrder, asks_with_file};
 ghost use Rattle.unit_inputs.specs.ReadsFor.{ReadsFor};
@@ -29,10 +30,10 @@ pub fn read_all<S: Shelf>(
     unit: &str,
     path: &str,
 ) -> Result<Prepared, CommandError>
-    ensures prepares { IfSome (S.told shelf.old) (λ files. IsPrepared files unit.now path.now result) }
+    ensures prepares { ForFiles (S.agrees shelf.new) (λ files. IsPrepared files unit.now path.now result) }
     ensures settled { IfOk result (λ prepared. AreSettled (inputs_in prepared) prepared.unit.settings.value) }
-    ensures asks_in_order { AsksInOrder S.asks (S.told shelf.old) (λ files. asks_with_file files unit.now path.now) shelf.old shelf.new (course result) }
-    ensures reads_for_the_unit { ReadsFor S.told S.faults unit.now shelf.old shelf.new result }
+    ensures asks_in_order { AsksInOrder S.asks (S.agrees shelf.new) (λ files. asks_with_file files unit.now path.now) shelf.old shelf.new (course result) }
+    ensures reads_for_the_unit { ReadsFor S.agrees S.faults unit.now shelf.old shelf.new result }
 {
     let inputs = read_inputs(alloc, shelf, unit)?;
     let made = read_program(alloc, shelf, path)?;

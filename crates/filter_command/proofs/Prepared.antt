@@ -1,6 +1,7 @@
 -- What is ready, and the line of a refusal, are what the definitions admit.
-use Rattle.std.proofs.Common.{◌≡◌, ℕ, Option, Some, None, List, ◌∷◌, Result, Ok, Err, refl, sym, subst}
-use Rattle.std.specs.Prelude.{IfOk, IfSome, IsTrue}
+use Rattle.std.proofs.Common.{◌≡◌, ℕ, Some, None, List, ◌∷◌, Result, Ok, Err, refl, sym, subst}
+use Rattle.std.specs.Prelude.{IfOk, IsTrue}
+use Rattle.unit_inputs.specs.host_io.Agreeing.{ForFiles}
 use Rattle.unit_inputs.specs.host_io.Files.{Files}
 use Rattle.launcher.specs.filter_settings.declared.filter_rules.installed.Filter.{Filter}
 use Rattle.launcher.specs.exec_settings.Dynamic.{unit_filters}
@@ -26,29 +27,28 @@ use Rattle.filter_command.proofs.Wanted.{are_filters}
 pub done_is_answer : (unit : List ℕ) (status : ExitStatus) → (filter_laws unit).may_end status → IsTrue (is_answer status)
 done_is_answer unit status done = subst (λ e. IsTrue (is_answer e)) (sym done) refl
 
-pub together : (told : Option Files) (unit : List ℕ) → GoTogether (laws_over told (filter_laws unit))
-together told unit = go_together (filter_laws unit) told (done_is_answer unit)
+pub together : (agrees : Files → Type 0) (unit : List ℕ) → GoTogether (laws_over agrees (filter_laws unit))
+together agrees unit = go_together (filter_laws unit) agrees (done_is_answer unit)
 
-prints_them : (told : Option Files) (unit : List ℕ) (one : SettledUnit) (made : List FilterProgram)
-    → IfSome told (λ files. (first_refusal (unit_refusals files unit) ≡ None) × (inputs_of files unit ≡ Some (inputs_view one.inputs)))
+prints_them : (agrees : Files → Type 0) (unit : List ℕ) (one : SettledUnit) (made : List FilterProgram)
+    → ForFiles agrees (λ files. (first_refusal (unit_refusals files unit) ≡ None) × (inputs_of files unit ≡ Some (inputs_view one.inputs)))
     → AreFilters (unit_filters (inputs_view one.inputs).unit (inputs_view one.inputs).calls) (inputs_view one.inputs).calls made
-    → IfSome told (λ files. AcceptsFiles (filter_laws unit) files × PrintsFilters files unit (text_of made))
-prints_them None unit one made settles are = tt
-prints_them (Some files) unit one made settles are =
-    (settles.0, record { inputs = inputs_view one.inputs; inputs_are = settles.1; filters = made; are_filters = are; is_their_text = refl })
+    → ForFiles agrees (λ files. AcceptsFiles (filter_laws unit) files × PrintsFilters files unit (text_of made))
+prints_them agrees unit one made settles are files agree =
+    ((settles files agree).0, record { inputs = inputs_view one.inputs; inputs_are = (settles files agree).1; filters = made; are_filters = are; is_their_text = refl })
 
 -- the programs of the settings' filters are ready
-pub prepared : (told : Option Files) (unit : List ℕ) (one : SettledUnit) (given : List Filter) (result : Result Filters CommandError)
-    → given ≡ one.settings.value.filters.items → IfSome told
+pub prepared : (agrees : Files → Type 0) (unit : List ℕ) (one : SettledUnit) (given : List Filter) (result : Result Filters CommandError)
+    → given ≡ one.settings.value.filters.items → ForFiles agrees
     (λ files. (first_refusal (unit_refusals files unit) ≡ None) × (inputs_of files unit ≡ Some (inputs_view one.inputs)))
     → AreSettled (inputs_view one.inputs) one.settings.value → IfOk result (λ made. AreProgramsOf given made.programs)
-    → RefusesNothing result → IsAdmitted (laws_over told (filter_laws unit)) status_of filters_text result
-prepared told unit one given (Ok made) same settles are compiled refuses_nothing =
-    ready_is_admitted (filter_laws unit) status_of filters_text told made refl
-    (prints_them told unit one made.programs settles
+    → RefusesNothing result → IsAdmitted (laws_over agrees (filter_laws unit)) status_of filters_text result
+prepared agrees unit one given (Ok made) same settles are compiled refuses_nothing =
+    ready_is_admitted (filter_laws unit) status_of filters_text agrees made refl
+    (prints_them agrees unit one made.programs settles
     (are_filters (unit_filters (inputs_view one.inputs).unit (inputs_view one.inputs).calls)
     (inputs_view one.inputs).calls one.settings.value.filters.items made.programs are.filters_as_wanted
     (subst (λ filters. AreProgramsOf filters made.programs) same compiled)))
-prepared told unit one given (Err (stop.Refused line)) same settles are compiled refuses_nothing = absurd refuses_nothing
-prepared told unit one given (Err stop.ReadFault) same settles are compiled refuses_nothing = tt
-prepared told unit one given (Err stop.Memory) same settles are compiled refuses_nothing = tt
+prepared agrees unit one given (Err (stop.Refused line)) same settles are compiled refuses_nothing = absurd refuses_nothing
+prepared agrees unit one given (Err stop.ReadFault) same settles are compiled refuses_nothing = tt
+prepared agrees unit one given (Err stop.Memory) same settles are compiled refuses_nothing = tt

@@ -59,9 +59,9 @@ fn compiled(alloc: Global, filters: &[Filter]) -> Result<Filters, CommandError>
 /// Prepares `filter` and the name of a unit: reads the unit, calls.txt and site.toml, finds the first refusal of them and of
 /// the settings, and compiles the filters.
 pub fn prepare<S: Shelf>(alloc: Global, shelf: &mut S, unit: &str) -> Result<Filters, CommandError>
-    ensures prepares { IsAdmitted (laws_over (S.told shelf.old) (filter_laws unit.now)) status_of filters_text result }
-    ensures asks_in_order { AsksInOrder S.asks (S.told shelf.old) (λ files. input_asks files unit.now) shelf.old shelf.new (course result) }
-    ensures reads_for_the_unit { ReadsFor S.told S.faults unit.now shelf.old shelf.new result }
+    ensures prepares { IsAdmitted (laws_over (S.agrees shelf.new) (filter_laws unit.now)) status_of filters_text result }
+    ensures asks_in_order { AsksInOrder S.asks (S.agrees shelf.new) (λ files. input_asks files unit.now) shelf.old shelf.new (course result) }
+    ensures reads_for_the_unit { ReadsFor S.agrees S.faults unit.now shelf.old shelf.new result }
 {
     let one = settle_unit(alloc, shelf, unit)?;
     compiled(alloc, one.settings.filters.as_slice())

@@ -41,9 +41,9 @@ impl Ready for Mounts {
 /// Prepares `plan` and the name of a unit: reads the unit, calls.txt and site.toml, finds the first refusal of them, of the
 /// settings and of the paths that they mention, and plans the mounts.
 pub fn prepare<S: Shelf>(alloc: Global, shelf: &mut S, unit: &str) -> Result<Mounts, CommandError>
-    ensures prepares { IsAdmitted (laws_over (S.told shelf.old) (plan_laws unit.now)) status_of mounts_text result }
-    ensures asks_in_order { AsksInOrder S.asks (S.told shelf.old) (λ files. input_asks files unit.now) shelf.old shelf.new (course result) }
-    ensures reads_for_the_unit { ReadsFor S.told S.faults unit.now shelf.old shelf.new result }
+    ensures prepares { IsAdmitted (laws_over (S.agrees shelf.new) (plan_laws unit.now)) status_of mounts_text result }
+    ensures asks_in_order { AsksInOrder S.asks (S.agrees shelf.new) (λ files. input_asks files unit.now) shelf.old shelf.new (course result) }
+    ensures reads_for_the_unit { ReadsFor S.agrees S.faults unit.now shelf.old shelf.new result }
 {
     let one = settle_unit(alloc, shelf, unit)?;
     let table = plan_mounts(alloc, unit, &one.settings.mentions, &one.inputs.site)?;

@@ -1,12 +1,13 @@
 -- Some steps read nothing and follow steps that read.
-use Rattle.std.proofs.Common.{◌≡◌, ℕ, List, [], ◌∷◌, ◌++◌, Vec, Global, Option, Some, None, Result, Ok, Err, refl, sym, ap, ◌∙◌, subst}
-use Rattle.std.specs.Prelude.{IfSome, IsErrOf}
+use Rattle.std.proofs.Common.{◌≡◌, ℕ, List, [], ◌∷◌, ◌++◌, Vec, Global, Option, Some, Result, Ok, Err, refl, sym, ap, ◌∙◌, subst}
+use Rattle.std.specs.Prelude.{IsErrOf}
 use Rattle.std.specs.Result.{IsErrAnd}
 use Rattle.std.specs.declared.alloc.AllocError.{AllocError}
+use Rattle.exec_settings.specs.host_io.Agreeing.{ForFiles}
 use Rattle.exec_settings.specs.host_io.Calls.{Ask, ShelfCall, call_of, course_of, Course, Whole, Faulted, Cut, AsksExactly, unless_refused}
 use Rattle.exec_settings.specs.host_io.Files.{Files}
 use Rattle.exec_settings.specs.host_io.declared.reading.ShelfError.{ShelfError}
-use Rattle.exec_settings.proofs.OfHostIo.Calling.{one_call, told_behind, told_short, went_cut}
+use Rattle.exec_settings.proofs.OfHostIo.Calling.{one_call, agreed_behind, agreed_short, went_cut}
 use Rattle.unit_inputs.specs.command_answers.Asking.{course, unless_told}
 use Rattle.unit_inputs.specs.command_answers.CommandErrors.{IsAnswer, Prepares, first_refusal, error_of_line}
 use Rattle.unit_inputs.specs.declared.command_answers.error.CommandError.{CommandError}
@@ -33,10 +34,9 @@ module _ {S : Type 0} (asks : S → ShelfCall → S → Type 0) (a b : S) where
   went_quiet x (Err ReadFault) quiet made = absurd (quiet refl)
   went_quiet x (Err Memory) quiet made = went_cut asks a b x made
 
-  pub told_quiet : {T : Type 0} (told : Option Files) (x : Files → List Ask) (result : Result T CommandError) → (IsErrOf result ReadFault → ⊥)
-      → IfSome told (λ files. AsksExactly asks a b (x files) Whole) → IfSome told (λ files. AsksExactly asks a b (x files) (course result))
-  told_quiet None x result quiet made = tt
-  told_quiet (Some files) x result quiet made = went_quiet (x files) result quiet made
+  pub agreed_quiet : {T : Type 0} (agrees : Files → Type 0) (x : Files → List Ask) (result : Result T CommandError) → (IsErrOf result ReadFault → ⊥)
+      → ForFiles agrees (λ files. AsksExactly asks a b (x files) Whole) → ForFiles agrees (λ files. AsksExactly asks a b (x files) (course result))
+  agreed_quiet agrees x result quiet made files agree = went_quiet (x files) result quiet (made files agree)
 
   -- an error is passed on with its course
   pub went_stopped : (T : Type 0) {U : Type 0} (x : List Ask) (result : Result U CommandError) (why : CommandError)
@@ -44,40 +44,35 @@ module _ {S : Type 0} (asks : S → ShelfCall → S → Type 0) (a b : S) where
   went_stopped T {U} x result why is made = at_stop (λ (r : Result U CommandError). AsksExactly asks a b x (course r)) result why is
       (subst (AsksExactly asks a b x) (course_as T U why) made)
 
-  pub told_stopped : (T : Type 0) {U : Type 0} (told : Option Files) (x : Files → List Ask) (result : Result U CommandError) (why : CommandError)
-      → IsErrAnd result (λ error. error ≡ why) → IfSome told (λ files. AsksExactly asks a b (x files) (course {T = T} (Err why)))
-      → IfSome told (λ files. AsksExactly asks a b (x files) (course result))
-  told_stopped T None x result why is made = tt
-  told_stopped T (Some files) x result why is made = went_stopped T (x files) result why is made
+  pub agreed_stopped : (T : Type 0) {U : Type 0} (agrees : Files → Type 0) (x : Files → List Ask) (result : Result U CommandError) (why : CommandError)
+      → IsErrAnd result (λ error. error ≡ why) → ForFiles agrees (λ files. AsksExactly asks a b (x files) (course {T = T} (Err why)))
+      → ForFiles agrees (λ files. AsksExactly asks a b (x files) (course result))
+  agreed_stopped T agrees x result why is made files agree = went_stopped T (x files) result why is (made files agree)
 
-  pub told_quiet_stopped : (T : Type 0) {U : Type 0} (told : Option Files) (x : Files → List Ask) (result : Result U CommandError) (why : CommandError)
+  pub agreed_quiet_stopped : (T : Type 0) {U : Type 0} (agrees : Files → Type 0) (x : Files → List Ask) (result : Result U CommandError) (why : CommandError)
       → IsErrAnd result (λ error. error ≡ why) → (IsErrOf {T = T} (Err why) ReadFault → ⊥)
-      → IfSome told (λ files. AsksExactly asks a b (x files) Whole) → IfSome told (λ files. AsksExactly asks a b (x files) (course result))
-  told_quiet_stopped T told x result why is quiet made = told_stopped T told x result why is
-      (told_quiet {T = T} told x (Err why) quiet made)
+      → ForFiles agrees (λ files. AsksExactly asks a b (x files) Whole) → ForFiles agrees (λ files. AsksExactly asks a b (x files) (course result))
+  agreed_quiet_stopped T agrees x result why is quiet made = agreed_stopped T agrees x result why is
+      (agreed_quiet {T = T} agrees x (Err why) quiet made)
 
   -- a reading follows another that is not refused
-  pub answer_behind : {T V : Type 0} (c : S) (see : T → V) (told between : Option Files) (x y : Files → List Ask)
-      (wanted : Files → Result V (List ℕ)) (value : T) (how : Course) → between ≡ told
-      → IfSome told (λ files. IsAnswer see (Ok value) (wanted files)) → IfSome told (λ files. AsksExactly asks a b (x files) Whole)
-      → IfSome between (λ files. AsksExactly asks b c (y files) how)
-      → IfSome told (λ files. AsksExactly asks a c (x files ++ unless_refused (wanted files) (y files)) how)
-  answer_behind c see told between x y wanted value how same is first second =
-      told_behind asks told a b c between x y (λ files. unless_refused (wanted files) (y files)) how same first second (by_told told is)
-    where
-      by_told : (known : Option Files) → IfSome known (λ files. IsAnswer see (Ok value) (wanted files))
-          → IfSome known (λ files. y files ≡ unless_refused (wanted files) (y files))
-      by_told None is = tt
-      by_told (Some files) is = sym (ap (λ r. unless_refused r (y files)) is)
+  pub answer_behind : {T V : Type 0} (c : S) (see : T → V) (agrees between : Files → Type 0) (x y : Files → List Ask)
+      (wanted : Files → Result V (List ℕ)) (value : T) (how : Course) → ForFiles agrees between
+      → ForFiles between (λ files. IsAnswer see (Ok value) (wanted files)) → ForFiles between (λ files. AsksExactly asks a b (x files) Whole)
+      → ForFiles agrees (λ files. AsksExactly asks b c (y files) how)
+      → ForFiles agrees (λ files. AsksExactly asks a c (x files ++ unless_refused (wanted files) (y files)) how)
+  answer_behind c see agrees between x y wanted value how stays is first second =
+      agreed_behind asks agrees a b c between x y (λ files. unless_refused (wanted files) (y files)) how stays first second
+      (λ files agree. sym (ap (λ r. unless_refused r (y files)) (is files agree)))
 
   -- after a refused reading the next one is not made
-  pub answer_stops : {T V : Type 0} (see : T → V) (told : Option Files) (x y : Files → List Ask) (wanted : Files → Result V (List ℕ))
+  pub answer_stops : {T V : Type 0} (see : T → V) (agrees : Files → Type 0) (x y : Files → List Ask) (wanted : Files → Result V (List ℕ))
       (why : CommandError)
-      → IfSome told (λ files. IsAnswer see (Err why) (wanted files))
-      → IfSome told (λ files. AsksExactly asks a b (x files) (course {T = T} (Err why)))
-      → IfSome told (λ files. AsksExactly asks a b (x files ++ unless_refused (wanted files) (y files)) (course {T = T} (Err why)))
-  answer_stops {T} see told x y wanted why is made =
-      told_short asks told a b x (λ files. unless_refused (wanted files) (y files)) (course {T = T} (Err why)) made (by_told told is)
+      → ForFiles agrees (λ files. IsAnswer see (Err why) (wanted files))
+      → ForFiles agrees (λ files. AsksExactly asks a b (x files) (course {T = T} (Err why)))
+      → ForFiles agrees (λ files. AsksExactly asks a b (x files ++ unless_refused (wanted files) (y files)) (course {T = T} (Err why)))
+  answer_stops {T} see agrees x y wanted why is made =
+      agreed_short asks agrees a b x (λ files. unless_refused (wanted files) (y files)) (course {T = T} (Err why)) made (λ files agree. by_why files why (is files agree))
     where
       by_why : (files : Files) (why : CommandError) → IsAnswer see (Err why) (wanted files) → course {T = T} (Err why) ≡ Whole
           → unless_refused (wanted files) (y files) ≡ []
@@ -85,45 +80,30 @@ module _ {S : Type 0} (asks : S → ShelfCall → S → Type 0) (a b : S) where
       by_why files ReadFault is whole = cc
       by_why files Memory is whole = cc
 
-      by_told : (known : Option Files) → IfSome known (λ files. IsAnswer see (Err why) (wanted files))
-          → IfSome known (λ files. course {T = T} (Err why) ≡ Whole → unless_refused (wanted files) (y files) ≡ [])
-      by_told None is = tt
-      by_told (Some files) is = by_why files why is
-
   -- a reading follows others of which none is refused
-  pub prepared_behind : {T : Type 0} (c : S) (P : Files → T → Type 0) (told between : Option Files) (x y : Files → List Ask)
-      (refusals : Files → List (Option (List ℕ))) (value : T) (how : Course) → between ≡ told
-      → IfSome told (λ files. Prepares (P files) (refusals files) (Ok value)) → IfSome told (λ files. AsksExactly asks a b (x files) Whole)
-      → IfSome between (λ files. AsksExactly asks b c (y files) how)
-      → IfSome told (λ files. AsksExactly asks a c (x files ++ unless_told (first_refusal (refusals files)) (y files)) how)
-  prepared_behind c P told between x y refusals value how same is first second =
-      told_behind asks told a b c between x y (λ files. unless_told (first_refusal (refusals files)) (y files)) how same first second
-      (by_told told is)
-    where
-      by_told : (known : Option Files) → IfSome known (λ files. Prepares (P files) (refusals files) (Ok value))
-          → IfSome known (λ files. y files ≡ unless_told (first_refusal (refusals files)) (y files))
-      by_told None is = tt
-      by_told (Some files) is = sym (ap (λ r. unless_told r (y files)) is.0)
+  pub prepared_behind : {T : Type 0} (c : S) (P : Files → T → Type 0) (agrees between : Files → Type 0) (x y : Files → List Ask)
+      (refusals : Files → List (Option (List ℕ))) (value : T) (how : Course) → ForFiles agrees between
+      → ForFiles between (λ files. Prepares (P files) (refusals files) (Ok value)) → ForFiles between (λ files. AsksExactly asks a b (x files) Whole)
+      → ForFiles agrees (λ files. AsksExactly asks b c (y files) how)
+      → ForFiles agrees (λ files. AsksExactly asks a c (x files ++ unless_told (first_refusal (refusals files)) (y files)) how)
+  prepared_behind c P agrees between x y refusals value how stays is first second =
+      agreed_behind asks agrees a b c between x y (λ files. unless_told (first_refusal (refusals files)) (y files)) how stays first second
+      (λ files agree. sym (ap (λ r. unless_told r (y files)) (is files agree).0))
 
-  pub prepared_stops : {T : Type 0} (P : Files → T → Type 0) (told : Option Files) (x y : Files → List Ask)
+  pub prepared_stops : {T : Type 0} (P : Files → T → Type 0) (agrees : Files → Type 0) (x y : Files → List Ask)
       (refusals : Files → List (Option (List ℕ))) (why : CommandError)
-      → IfSome told (λ files. Prepares (P files) (refusals files) (Err why))
-      → IfSome told (λ files. AsksExactly asks a b (x files) (course {T = T} (Err why)))
-      → IfSome told (λ files. AsksExactly asks a b (x files ++ unless_told (first_refusal (refusals files)) (y files)) (course {T = T} (Err why)))
-  prepared_stops {T} P told x y refusals why is made =
-      told_short asks told a b x (λ files. unless_told (first_refusal (refusals files)) (y files)) (course {T = T} (Err why)) made
-      (by_told told is)
+      → ForFiles agrees (λ files. Prepares (P files) (refusals files) (Err why))
+      → ForFiles agrees (λ files. AsksExactly asks a b (x files) (course {T = T} (Err why)))
+      → ForFiles agrees (λ files. AsksExactly asks a b (x files ++ unless_told (first_refusal (refusals files)) (y files)) (course {T = T} (Err why)))
+  prepared_stops {T} P agrees x y refusals why is made =
+      agreed_short asks agrees a b x (λ files. unless_told (first_refusal (refusals files)) (y files)) (course {T = T} (Err why)) made
+      (λ files agree. by_why files why (is files agree))
     where
       by_why : (files : Files) (why : CommandError) → Prepares (P files) (refusals files) (Err why) → course {T = T} (Err why) ≡ Whole
           → unless_told (first_refusal (refusals files)) (y files) ≡ []
       by_why files (Refused line) is whole = ap (λ r. unless_told r (y files)) is
       by_why files ReadFault is whole = cc
       by_why files Memory is whole = cc
-
-      by_told : (known : Option Files) → IfSome known (λ files. Prepares (P files) (refusals files) (Err why))
-          → IfSome known (λ files. course {T = T} (Err why) ≡ Whole → unless_told (first_refusal (refusals files)) (y files) ≡ [])
-      by_told None is = tt
-      by_told (Some files) is = by_why files why is
 
 -- a line that is printed is no fault
 pub told_line : {T : Type 0} (line : Result (Vec ℕ Global) AllocError) (why : CommandError) → why ≡ error_of_line line

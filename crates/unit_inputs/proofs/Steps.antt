@@ -1,6 +1,6 @@
 -- The settings follow from the inputs.
 use Rattle.std.proofs.Common.{◌≡◌, ℕ, Option, Some, None, List, ◌++◌, Result, Ok, Err, sym, ap, ◌∙◌}
-use Rattle.std.specs.Prelude.{IfSome}
+use Rattle.exec_settings.specs.host_io.Agreeing.{ForFiles}
 use Rattle.exec_settings.specs.host_io.Files.{Files}
 use Rattle.unit_inputs.specs.command_answers.CommandErrors.{Prepares, first_refusal}
 use Rattle.unit_inputs.specs.declared.command_answers.error.CommandError.{CommandError}
@@ -24,21 +24,28 @@ refusals_with files unit some more inputs none is =
     ∙ ap (λ found. first_refusal (refusals_by more found)) is
 
 -- the inputs are read, and then their settings
-pub settled : (told : Option Files) (unit : List ℕ) (inputs : UnitInputs) (result : Result SettledUnit CommandError)
-    → IfSome told (λ files. AreRead files unit inputs) → Prepares
+pub settled : (agrees : Files → Type 0) (unit : List ℕ) (inputs : UnitInputs) (result : Result SettledUnit CommandError)
+    → ForFiles agrees (λ files. AreRead files unit inputs) → Prepares
     (λ one. (one.inputs ≡ inputs) × AreSettled (inputs_view inputs) one.settings.value) (refusals_of unit (inputs_view inputs)) result
-    → IfSome told (λ files. Prepares (λ one. inputs_of files unit ≡ Some (inputs_view one.inputs)) (unit_refusals files unit) result)
-settled None unit inputs result read settles = tt
-settled (Some files) unit inputs (Ok one) read settles = (refusals_with files unit (input_refusals files unit) (refusals_of unit) (inputs_view inputs) read.0 read.1 ∙ settles.0, read.1 ∙ ap (λ these. Some (inputs_view these)) (sym settles.1.0))
-settled (Some files) unit inputs (Err (stop.Refused line)) read settles =
-    refusals_with files unit (input_refusals files unit) (refusals_of unit) (inputs_view inputs) read.0 read.1 ∙ settles
-settled (Some files) unit inputs (Err stop.ReadFault) read settles = tt
-settled (Some files) unit inputs (Err stop.Memory) read settles = tt
+    → ForFiles agrees (λ files. Prepares (λ one. inputs_of files unit ≡ Some (inputs_view one.inputs)) (unit_refusals files unit) result)
+settled agrees unit inputs result all settles files agree = by_result result (all files agree) settles
+  where
+    by_result : (result : Result SettledUnit CommandError) → AreRead files unit inputs
+        → Prepares (λ one. (one.inputs ≡ inputs) × AreSettled (inputs_view inputs) one.settings.value) (refusals_of unit (inputs_view inputs)) result
+        → Prepares (λ one. inputs_of files unit ≡ Some (inputs_view one.inputs)) (unit_refusals files unit) result
+    by_result (Ok one) read settles = (
+      refusals_with files unit (input_refusals files unit) (refusals_of unit) (inputs_view inputs) read.0 read.1 ∙ settles.0,
+      read.1 ∙ ap (λ these. Some (inputs_view these)) (sym settles.1.0),
+    )
+    by_result (Err (stop.Refused line)) read settles =
+        refusals_with files unit (input_refusals files unit) (refusals_of unit) (inputs_view inputs) read.0 read.1 ∙ settles
+    by_result (Err stop.ReadFault) read settles = tt
+    by_result (Err stop.Memory) read settles = tt
 
 -- an input is refused, whatever refusals may follow
-pub stops_at_inputs : {U : Type 0} (P : Files → UnitInputs → Type 0) (Q : Files → U → Type 0) (told : Option Files) (unit : List ℕ)
+pub stops_at_inputs : {U : Type 0} (P : Files → UnitInputs → Type 0) (Q : Files → U → Type 0) (agrees : Files → Type 0) (unit : List ℕ)
     (more : Files → List (Option (List ℕ))) (why : CommandError)
-    → IfSome told (λ files. Prepares (P files) (input_refusals files unit) (Err why))
-    → IfSome told (λ files. Prepares (Q files) (input_refusals files unit ++ more files) (Err why))
-stops_at_inputs P Q None unit more why said = tt
-stops_at_inputs P Q (Some files) unit more why said = stops_before (P files) (Q files) why (input_refusals files unit) (more files) said
+    → ForFiles agrees (λ files. Prepares (P files) (input_refusals files unit) (Err why))
+    → ForFiles agrees (λ files. Prepares (Q files) (input_refusals files unit ++ more files) (Err why))
+stops_at_inputs P Q agrees unit more why said files agree =
+    stops_before (P files) (Q files) why (input_refusals files unit) (more files) (said files agree)

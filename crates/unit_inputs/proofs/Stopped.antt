@@ -1,6 +1,7 @@
 -- A command that stopped over files, and was finished, ran by its laws.
-use Rattle.std.proofs.Common.{ℕ, [], Option, Some, None, Err, refl}
-use Rattle.std.specs.Prelude.{IfSome, IsErrOf}
+use Rattle.std.proofs.Common.{ℕ, [], Err, refl}
+use Rattle.std.specs.Prelude.{IsErrOf}
+use Rattle.exec_settings.specs.host_io.Agreeing.{ForFiles}
 use Rattle.exec_settings.specs.host_io.Files.{Files}
 use Rattle.unit_inputs.specs.command_answers.Laws.{FileLaws, GoTogether, laws_over}
 use Rattle.unit_inputs.specs.command_answers.Printing.{FinishesError}
@@ -34,16 +35,11 @@ module _ (laws : FileLaws) {T : Type 0} (P : Files → T → Type 0) where
   as_any files stop.ReadFault said = tt
   as_any files stop.Memory said = tt
 
-  told_stop : (told : Option Files) (why : CommandError) → IfSome told (λ files. Prepares (P files) (laws.refusals files) (Err why))
-      → IfSome told (λ files. Prepares (λ (one : T). Unit {0}) (laws.refusals files) (Err why))
-  told_stop None why said = tt
-  told_stop (Some files) why said = as_any files why said
-
-  pub ran_stopped : (told : Option Files) (together : GoTogether (laws_over told laws)) (outside : Outside) (ended : ExitStatus) (why : CommandError)
-      → IfSome told (λ files. Prepares (P files) (laws.refusals files) (Err why)) → (IsErrOf {T = T} (Err why) stop.ReadFault → laws.reads)
+  pub ran_stopped : (agrees : Files → Type 0) (together : GoTogether (laws_over agrees laws)) (outside : Outside) (ended : ExitStatus) (why : CommandError)
+      → ForFiles agrees (λ files. Prepares (P files) (laws.refusals files) (Err why)) → (IsErrOf {T = T} (Err why) stop.ReadFault → laws.reads)
       → HasReadCause {T = T} outside.shelf_before outside.shelf_after (Err why) → FinishesError why ended outside.sink
-      → IsRun (laws_over told laws) ended outside
-  ran_stopped told together outside ended why is reads cause finished =
-      ran (laws_over told laws) together outside {R = ExitStatus} (λ status. status) (λ status. []) (Err why) ended
-      (stop_is_admitted laws (λ (status : ExitStatus). status) (λ status. []) (λ (one : T). Unit {0}) told why (told_stop told why is))
+      → IsRun (laws_over agrees laws) ended outside
+  ran_stopped agrees together outside ended why is reads cause finished =
+      ran (laws_over agrees laws) together outside {R = ExitStatus} (λ status. status) (λ status. []) (Err why) ended
+      (stop_is_admitted laws (λ (status : ExitStatus). status) (λ status. []) (λ (one : T). Unit {0}) agrees why (λ files agree. as_any files why (is files agree)))
       (reads_of laws.reads why reads) (cause_of outside.shelf_before outside.shelf_after why cause) finished

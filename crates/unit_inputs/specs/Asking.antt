@@ -1,5 +1,6 @@
 -- A command reads its inputs by these calls, in this order. Each answer is judged before the next call.
-use Rattle.std.specs.Prelude.{ℕ, List, [], ◌∷◌, ◌++◌, IfSome, Option}
+use Rattle.std.specs.Prelude.{ℕ, List, [], ◌∷◌, ◌++◌}
+use Rattle.exec_settings.specs.host_io.Agreeing.{ForFiles}
 use Rattle.exec_settings.specs.host_io.Calls.{Ask, ShelfCall, Course, AsksExactly, unless_refused}
 use Rattle.exec_settings.specs.host_io.Files.{Files}
 use Rattle.exec_settings.specs.dropin_merge.Asking.{resolve_asks}
@@ -11,10 +12,10 @@ use Rattle.unit_inputs.specs.Inputs.{input_refusals}
 use Rattle.unit_inputs.specs.SiteRefusals.{site_path}
 use Rattle.unit_inputs.specs.UnitRefusals.{unit_in}
 
--- the shelf got exactly the calls that its files call for, in this order, up to the end of the reading; this holds of a shelf
--- that shows its files
-pub record AsksInOrder {S : Type 0} (asks : S → ShelfCall → S → Type 0) (told : Option Files) (wanted : Files → List Ask) (before now : S) (how : Course) : Type 0 where
-  pub by_the_files : IfSome told (λ files. AsksExactly asks before now (wanted files) how)
+-- the shelf got exactly the calls that the files call for, in this order, up to the end of the reading; this holds of all files
+-- that agree with its answers
+pub record AsksInOrder {S : Type 0} (asks : S → ShelfCall → S → Type 0) (agrees : Files → Type 0) (wanted : Files → List Ask) (before now : S) (how : Course) : Type 0 where
+  pub by_the_files : ForFiles agrees (λ files. AsksExactly asks before now (wanted files) how)
 
 -- the call for calls.txt, and the call for site.toml
 abbrev pub table_asks : List Ask

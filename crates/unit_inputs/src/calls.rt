@@ -1,5 +1,6 @@
 // Reads the table of system calls and writes the lines of its refusals.
-ghost use Rattle.std.specs.Prelude.{◌≡◌, IfOk, IfSome, IsErrOf};
+ghost use Rattle.std.specs.Prelude.{◌≡◌, IfOk, IsErrOf};
+ghost use Rattle.exec_settings.specs.host_io.Agreeing.{ForFiles};
 ghost use Rattle.exec_settings.specs.host_io.Calls.{AsksExactly};
 ghost use Rattle.unit_inputs.specs.command_answers.Asking.{course};
 ghost use Rattle.unit_inputs.specs.command_answers.CommandErrors.{HasReadCause, IsAnswer};
@@ -64,9 +65,9 @@ fn table_of_bytes(alloc: Global, bytes: &[u8]) -> Result<Box<CallTable>, Command
 
 /// Reads the table from calls.txt.
 pub fn read_table<S: Shelf>(alloc: Global, shelf: &mut S) -> Result<Box<CallTable>, CommandError>
-    ensures reads_the_table { IfSome (S.told shelf.old) (λ files. IsAnswer (λ table. table.value) result (calls_in files)) }
+    ensures reads_the_table { ForFiles (S.agrees shelf.new) (λ files. IsAnswer (λ table. table.value) result (calls_in files)) }
     ensures asks_for_it { AsksExactly S.asks shelf.old shelf.new table_asks (course result) }
-    ensures map_stays { S.told shelf.new ≡ S.told shelf.old }
+    ensures answers_stay { ForFiles (S.agrees shelf.new) (S.agrees shelf.old) }
     ensures fault_rose { HasReadCause (S.faults shelf.old) (S.faults shelf.new) result }
 {
     let bytes = read_input(alloc, shelf, TABLE_PATH)?;

@@ -1,5 +1,6 @@
 // Reads the bytes of a required file.
-ghost use Rattle.std.specs.Prelude.{◌≡◌, ◌∷◌, [], IfSome};
+ghost use Rattle.std.specs.Prelude.{◌≡◌, ◌∷◌, []};
+ghost use Rattle.exec_settings.specs.host_io.Agreeing.{ForFiles};
 ghost use Rattle.exec_settings.specs.host_io.Calls.{AsksExactly};
 ghost use Rattle.unit_inputs.specs.command_answers.Asking.{course, input_file};
 ghost use Rattle.unit_inputs.specs.command_answers.CommandErrors.{HasReadCause, IsAnswer};
@@ -15,9 +16,9 @@ pub fn read_input<S: Shelf>(
     shelf: &mut S,
     path: &str,
 ) -> Result<Vec<u8>, CommandError>
-    ensures reads_the_file { IfSome (S.told shelf.old) (λ files. IsAnswer (λ bytes. bytes.items) result (bytes_in files path.now)) }
+    ensures reads_the_file { ForFiles (S.agrees shelf.new) (λ files. IsAnswer (λ bytes. bytes.items) result (bytes_in files path.now)) }
     ensures asks_for_it { AsksExactly S.asks shelf.old shelf.new (input_file path.now ∷ []) (course result) }
-    ensures map_stays { S.told shelf.new ≡ S.told shelf.old }
+    ensures answers_stay { ForFiles (S.agrees shelf.new) (S.agrees shelf.old) }
     ensures fault_rose { HasReadCause (S.faults shelf.old) (S.faults shelf.new) result }
 {
     match read_file(alloc, shelf, path) {

@@ -1,5 +1,6 @@
 // Reads the inputs of a command on a unit.
-ghost use Rattle.std.specs.Prelude.{◌≡◌, IfOk, IfSome, Some};
+ghost use Rattle.std.specs.Prelude.{◌≡◌, IfOk, Some};
+ghost use Rattle.exec_settings.specs.host_io.Agreeing.{ForFiles};
 ghost use Rattle.unit_inputs.specs.command_answers.Asking.{course};
 ghost use Rattle.unit_inputs.specs.command_answers.CommandErrors.{Prepares};
 ghost use Rattle.exec_settings.specs.unit_names.Cutting.{name_of};
@@ -38,7 +39,7 @@ fn kernel_of(systemd: Option<Version>) -> Kernel
 
 /// Reads the inputs of a command on a unit: the unit, as `dropin_merge` resolves it, then calls.txt and site.toml.
 ///
-/// The first refusal decides, and nothing is read after it. A shelf that shows its files is called in this order, up to the
+/// The first refusal decides, and nothing is read after it. The shelf is called in this order, up to the
 /// first refusal. Each of the two tables is refused if it is missing or has more than 1 MiB, and then if its text is faulty.
 /// `ReadFault` means that the shelf's count of faults rose. A text that is no name of a service is refused without a read.
 pub fn read_inputs<S: Shelf>(
@@ -46,10 +47,10 @@ pub fn read_inputs<S: Shelf>(
     shelf: &mut S,
     unit: &str,
 ) -> Result<UnitInputs, CommandError>
-    ensures reads_by_the_files { IfSome (S.told shelf.old) (λ files. Prepares (λ inputs. inputs_of files unit.now ≡ Some (inputs_view inputs)) (input_refusals files unit.now) result) }
+    ensures reads_by_the_files { ForFiles (S.agrees shelf.new) (λ files. Prepares (λ inputs. inputs_of files unit.now ≡ Some (inputs_view inputs)) (input_refusals files unit.now) result) }
     ensures names_the_unit { IfOk result (λ inputs. name_of unit.now ≡ Some inputs.unit.value.name) }
-    ensures asks_in_order { AsksInOrder S.asks (S.told shelf.old) (λ files. input_asks files unit.now) shelf.old shelf.new (course result) }
-    ensures reads_for_the_unit { ReadsFor S.told S.faults unit.now shelf.old shelf.new result }
+    ensures asks_in_order { AsksInOrder S.asks (S.agrees shelf.new) (λ files. input_asks files unit.now) shelf.old shelf.new (course result) }
+    ensures reads_for_the_unit { ReadsFor S.agrees S.faults unit.now shelf.old shelf.new result }
 {
     let mut unit = read_unit(alloc, shelf, unit)?;
     let mut calls = read_table(alloc, shelf)?;

@@ -1,5 +1,6 @@
 //! Adds the settings of a unit to its inputs.
-ghost use Rattle.std.specs.Prelude.{◌≡◌, IfOk, IfSome, IsErrOf, Some};
+ghost use Rattle.std.specs.Prelude.{◌≡◌, IfOk, IsErrOf, Some};
+ghost use Rattle.exec_settings.specs.host_io.Agreeing.{ForFiles};
 ghost use Rattle.unit_inputs.specs.command_answers.Asking.{course};
 ghost use Rattle.unit_inputs.specs.command_answers.CommandErrors.{Prepares};
 ghost use Rattle.unit_inputs.specs.Inputs.{inputs_of, inputs_view};
@@ -58,10 +59,10 @@ pub fn settle_unit<S: Shelf>(
     shelf: &mut S,
     unit: &str,
 ) -> Result<SettledUnit, CommandError>
-    ensures settles_by_the_files { IfSome (S.told shelf.old) (λ files. Prepares (λ one. inputs_of files unit.now ≡ Some (inputs_view one.inputs)) (unit_refusals files unit.now) result) }
+    ensures settles_by_the_files { ForFiles (S.agrees shelf.new) (λ files. Prepares (λ one. inputs_of files unit.now ≡ Some (inputs_view one.inputs)) (unit_refusals files unit.now) result) }
     ensures has_settings { IfOk result (λ one. AreSettled (inputs_view one.inputs) one.settings.value) }
-    ensures asks_in_order { AsksInOrder S.asks (S.told shelf.old) (λ files. input_asks files unit.now) shelf.old shelf.new (course result) }
-    ensures reads_for_the_unit { ReadsFor S.told S.faults unit.now shelf.old shelf.new result }
+    ensures asks_in_order { AsksInOrder S.asks (S.agrees shelf.new) (λ files. input_asks files unit.now) shelf.old shelf.new (course result) }
+    ensures reads_for_the_unit { ReadsFor S.agrees S.faults unit.now shelf.old shelf.new result }
 {
     let inputs = read_inputs(alloc, shelf, unit)?;
     settle(alloc, unit, inputs)

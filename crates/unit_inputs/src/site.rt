@@ -1,5 +1,6 @@
 // Reads the site and writes the lines of its refusals.
-ghost use Rattle.std.specs.Prelude.{◌≡◌, IfOk, IfSome, IsErrOf};
+ghost use Rattle.std.specs.Prelude.{◌≡◌, IfOk, IsErrOf};
+ghost use Rattle.exec_settings.specs.host_io.Agreeing.{ForFiles};
 ghost use Rattle.exec_settings.specs.host_io.Calls.{AsksExactly};
 ghost use Rattle.unit_inputs.specs.command_answers.Asking.{course};
 ghost use Rattle.unit_inputs.specs.command_answers.CommandErrors.{HasReadCause, IsAnswer};
@@ -77,9 +78,9 @@ fn site_of_bytes(alloc: Global, bytes: &[u8]) -> Result<Box<SiteTable>, CommandE
 
 /// Reads the site from site.toml.
 pub fn read_site<S: Shelf>(alloc: Global, shelf: &mut S) -> Result<Box<SiteTable>, CommandError>
-    ensures reads_the_site { IfSome (S.told shelf.old) (λ files. IsAnswer (λ site. site.value) result (site_in files)) }
+    ensures reads_the_site { ForFiles (S.agrees shelf.new) (λ files. IsAnswer (λ site. site.value) result (site_in files)) }
     ensures asks_for_it { AsksExactly S.asks shelf.old shelf.new site_asks (course result) }
-    ensures map_stays { S.told shelf.new ≡ S.told shelf.old }
+    ensures answers_stay { ForFiles (S.agrees shelf.new) (S.agrees shelf.old) }
     ensures fault_rose { HasReadCause (S.faults shelf.old) (S.faults shelf.new) result }
 {
     let bytes = read_input(alloc, shelf, SITE_PATH)?;

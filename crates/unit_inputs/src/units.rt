@@ -1,5 +1,6 @@
 // Reads the unit and writes the lines of its refusals.
-ghost use Rattle.std.specs.Prelude.{◌≡◌, IfOk, IfSome, Some};
+ghost use Rattle.std.specs.Prelude.{◌≡◌, IfOk, Some};
+ghost use Rattle.exec_settings.specs.host_io.Agreeing.{ForFiles};
 ghost use Rattle.exec_settings.specs.dropin_merge.Asking.{resolve_asks};
 ghost use Rattle.unit_inputs.specs.command_answers.Asking.{course};
 ghost use Rattle.unit_inputs.specs.command_answers.Refusals.{refused_line};
@@ -66,10 +67,10 @@ fn read_files<S: Shelf>(
     shelf: &mut S,
     unit: &str,
 ) -> Result<Box<Resolved>, CommandError>
-    ensures resolves_by_the_files { IfSome (S.told shelf.old) (λ files. IsAnswer (λ resolved. resolved.value) result (unit_in files unit.now)) }
+    ensures resolves_by_the_files { ForFiles (S.agrees shelf.new) (λ files. IsAnswer (λ resolved. resolved.value) result (unit_in files unit.now)) }
     ensures names_the_unit { IfOk result (λ resolved. name_of unit.now ≡ Some resolved.value.name) }
-    ensures asks_in_order { AsksInOrder S.asks (S.told shelf.old) (λ files. resolve_asks files unit.now) shelf.old shelf.new (course result) }
-    ensures map_stays { S.told shelf.new ≡ S.told shelf.old }
+    ensures asks_in_order { AsksInOrder S.asks (S.agrees shelf.new) (λ files. resolve_asks files unit.now) shelf.old shelf.new (course result) }
+    ensures answers_stay { ForFiles (S.agrees shelf.new) (S.agrees shelf.old) }
     ensures fault_rose { HasReadCause (S.faults shelf.old) (S.faults shelf.new) result }
 {
     match resolve(alloc, shelf, unit) {
@@ -86,10 +87,10 @@ pub fn read_unit<S: Shelf>(
     shelf: &mut S,
     unit: &str,
 ) -> Result<Box<Resolved>, CommandError>
-    ensures resolves_by_the_files { IfSome (S.told shelf.old) (λ files. IsAnswer (λ resolved. resolved.value) result (unit_in files unit.now)) }
+    ensures resolves_by_the_files { ForFiles (S.agrees shelf.new) (λ files. IsAnswer (λ resolved. resolved.value) result (unit_in files unit.now)) }
     ensures names_the_unit { IfOk result (λ resolved. name_of unit.now ≡ Some resolved.value.name) }
-    ensures asks_in_order { AsksInOrder S.asks (S.told shelf.old) (λ files. resolve_asks files unit.now) shelf.old shelf.new (course result) }
-    ensures reads_for_the_unit { ReadsFor S.told S.faults unit.now shelf.old shelf.new result }
+    ensures asks_in_order { AsksInOrder S.asks (S.agrees shelf.new) (λ files. resolve_asks files unit.now) shelf.old shelf.new (course result) }
+    ensures reads_for_the_unit { ReadsFor S.agrees S.faults unit.now shelf.old shelf.new result }
 {
     check_name(alloc, unit)?;
     read_files(alloc, shelf, unit)

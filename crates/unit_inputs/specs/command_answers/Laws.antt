@@ -1,5 +1,6 @@
 -- The promises about any command.
 use Rattle.std.specs.Prelude.{◌≡◌, ◌⊎◌, ℕ, List, IsTrue, Option, Some, None, Result, Ok, Err}
+use Rattle.exec_settings.specs.host_io.Agreeing.{ForFiles}
 use Rattle.exec_settings.specs.host_io.Files.{Files}
 use Rattle.unit_inputs.specs.command_answers.ExitStatuses.{is_answer, is_whole}
 use Rattle.unit_inputs.specs.command_answers.CommandErrors.{first_refusal}
@@ -53,22 +54,47 @@ pub data Admits (laws : FileLaws) (files : Files) : ExitStatus → List ℕ → 
 abbrev pub MayEnd : FileLaws → Files → ExitStatus → Type 0
 MayEnd laws files behind = ((behind ≡ status.Refused) × (AcceptsFiles laws files → ⊥)) ⊎ (AcceptsFiles laws files × laws.may_end behind)
 
--- the texts over the files that a shelf shows; without such files only the statuses are known
-abbrev pub admits_over : FileLaws → Option Files → ExitStatus → List ℕ → Type 0
-admits_over laws None behind text = (behind ≡ status.Refused) ⊎ laws.may_end behind
-admits_over laws (Some files) behind text = Admits laws files behind text
+-- the laws of a command over each map of files: the statuses that it may have whatever the files are; the texts that it may print over
+-- the files, each with the exit status after it; the statuses that may follow a whole text; whether the files are accepted; and
+-- whether the command reads files
+pub record LawsByFiles : Type 1 where
+  pub may_be : ExitStatus → Type 0
+  pub admits : Files → ExitStatus → List ℕ → Type 0
+  pub may_end : Files → ExitStatus → Type 0
+  pub accepts : Files → Type 0
+  pub reads : Type 0
 
-abbrev pub may_end_over : FileLaws → Option Files → ExitStatus → Type 0
-may_end_over laws None behind = (behind ≡ status.Refused) ⊎ laws.may_end behind
-may_end_over laws (Some files) behind = MayEnd laws files behind
+-- the status is one of the command, and this holds of all files that agree with the answers of the shelf
+pub record ByAnswers (agrees : Files → Type 0) (any : Type 0) (holds : Files → Type 0) : Type 0 where
+  pub whatever_the_files : any
+  pub by_the_files : ForFiles agrees holds
 
-abbrev pub accepts_over : FileLaws → Option Files → Type 0
-accepts_over laws None = ⊥
-accepts_over laws (Some files) = AcceptsFiles laws files
+-- this holds of some files that agree with the answers of the shelf
+pub record OfSomeFiles (agrees holds : Files → Type 0) : Type 0 where
+  pub files : Files
+  pub agree : agrees files
+  pub so : holds files
 
-abbrev pub laws_over : Option Files → FileLaws → Laws
-laws_over told laws = record
-    { admits = admits_over laws told; may_end = may_end_over laws told; accepts = accepts_over laws told; reads = laws.reads }
+-- What was read is what is promised: a text is admitted if it is admitted for all files that agree with the answers of the shelf.
+abbrev pub over_files : (Files → Type 0) → LawsByFiles → Laws
+over_files agrees laws = record {
+  admits = λ status text. ByAnswers agrees (laws.may_be status) (λ files. laws.admits files status text);
+  may_end = λ status. ByAnswers agrees (laws.may_be status) (λ files. laws.may_end files status);
+  accepts = OfSomeFiles agrees laws.accepts;
+  reads = laws.reads;
+}
+
+abbrev pub laws_by_files : FileLaws → LawsByFiles
+laws_by_files laws = record {
+  may_be = λ behind. (behind ≡ status.Refused) ⊎ laws.may_end behind;
+  admits = λ files behind text. Admits laws files behind text;
+  may_end = λ files behind. MayEnd laws files behind;
+  accepts = AcceptsFiles laws;
+  reads = laws.reads;
+}
+
+abbrev pub laws_over : (Files → Type 0) → FileLaws → Laws
+laws_over agrees laws = over_files agrees (laws_by_files laws)
 
 -- the prepared text, or the line of the refusal, is admitted
 abbrev pub IsAdmitted : {R : Type 0} → Laws → (R → ExitStatus) → (R → List ℕ) → Result R CommandError → Type 0

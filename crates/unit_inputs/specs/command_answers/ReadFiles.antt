@@ -1,5 +1,6 @@
 -- Commands read files of the shelf.
 use Rattle.std.specs.Prelude.{◌≡◌, ℕ, nat_le, cond, List, length, codes, Option, Some, None}
+use Rattle.exec_settings.specs.host_io.Agreeing.{ForFiles}
 use Rattle.exec_settings.specs.host_io.Files.{Files, bytes_at}
 use Rattle.unit_inputs.specs.declared.command_answers.files.FileRead.{FileRead}
 use Rattle.unit_inputs.specs.declared.command_answers.files.FileRead.TheVariants as read
@@ -25,10 +26,9 @@ content_view (read.Bytes bytes) = Holds bytes.items
 content_view read.Missing = IsMissing
 content_view read.TooLarge = IsTooLarge
 
--- the contents of the file are read, if the shelf shows its files
-abbrev pub ReadsContent : List ℕ → Option Files → FileRead → Type 0
-ReadsContent path None found = Unit {0}
-ReadsContent path (Some files) found = content_view found ≡ content_at files path
+-- the contents of the file are read
+abbrev pub ReadsContent : List ℕ → (Files → Type 0) → FileRead → Type 0
+ReadsContent path agrees found = ForFiles agrees (λ files. content_view found ≡ content_at files path)
 
 abbrev pub table_path : List ℕ
 table_path = codes "calls.txt"

@@ -1,5 +1,6 @@
 // Reads files of the shelf for the commands.
 ghost use Rattle.std.specs.Prelude.{◌≡◌, ◌∷◌, [], IfOk};
+ghost use Rattle.exec_settings.specs.host_io.Agreeing.{ForFiles};
 ghost use Rattle.exec_settings.specs.host_io.Calls.{AsksExactly};
 ghost use Rattle.unit_inputs.specs.command_answers.Asking.{course, input_file};
 ghost use Rattle.unit_inputs.specs.command_answers.CommandErrors.{HasReadCause, RefusesNothing};
@@ -32,10 +33,10 @@ pub fn read_file<S: Shelf>(
     shelf: &mut S,
     path: &str,
 ) -> Result<FileRead, CommandError>
-    ensures reads_the_file { IfOk result (ReadsContent path.now (S.told shelf.old)) }
+    ensures reads_the_file { IfOk result (ReadsContent path.now (S.agrees shelf.new)) }
     ensures refuses_nothing { RefusesNothing result }
     ensures asks_for_it { AsksExactly S.asks shelf.old shelf.new (input_file path.now ∷ []) (course result) }
-    ensures map_stays { S.told shelf.new ≡ S.told shelf.old }
+    ensures answers_stay { ForFiles (S.agrees shelf.new) (S.agrees shelf.old) }
     ensures fault_rose { HasReadCause (S.faults shelf.old) (S.faults shelf.new) result }
 {
     match shelf.read(alloc, path, MOST_BYTES) {

@@ -1,5 +1,6 @@
 use Rattle.std.proofs.Common.{List, ℕ, Global, subst}
-use Rattle.std.specs.Prelude.{IfSome, Vec}
+use Rattle.std.specs.Prelude.{Vec}
+use Rattle.unit_inputs.specs.host_io.Agreeing.{ForFiles}
 use Rattle.filter_check.specs.bpf_code.declared.machine.Insn.{Insn}
 use Rattle.unit_inputs.proofs.FileCommands.{at_stop}
 use Rattle.check_command.specs.Programs.{IsProgramIn, IsProgramOf}
@@ -12,15 +13,15 @@ use Rattle.check_command.proofs.programs.read_program.Goals as goal
 
 pub returns-in_err-bytes-clause-reads_the_program : goal.returns-in_err-bytes-clause-reads_the_program
 returns-in_err-bytes-clause-reads_the_program g c =
-    at_stop (λ result. IfSome (g.S.Shelf.told c.args.shelf.now)
+    at_stop (λ result. ForFiles (g.S.Shelf.agrees c.read_input.new.shelf)
     (λ files. IsSaid (λ (program : List Insn). program) (IsProgramIn files c.args.path.now) result)) c.from_residual.result
     c.in_err-bytes.field-0.0 c.from_residual.ensures.1
-    (no_bytes (λ (bytes : Vec ℕ Global). bytes.items) (g.S.Shelf.told c.args.shelf.now) c.args.path.now c.in_err-bytes.field-0.0
+    (no_bytes (λ (bytes : Vec ℕ Global). bytes.items) (g.S.Shelf.agrees c.read_input.new.shelf) c.args.path.now c.in_err-bytes.field-0.0
     c.in_err-bytes.ensures.reads_the_file)
 
 pub returns-clause-reads_the_program : goal.returns-clause-reads_the_program
 returns-clause-reads_the_program g c =
-    some_bytes (g.S.Shelf.told c.args.shelf.now) c.args.path.now c.in_ok-bytes.bytes.items c.program_of_bytes.result
+    some_bytes (g.S.Shelf.agrees c.read_input.new.shelf) c.args.path.now c.in_ok-bytes.bytes.items c.program_of_bytes.result
     c.in_ok-bytes.ensures.reads_the_file
     (subst (λ bytes. IsSaid (λ (program : List Insn). program) (IsProgramOf c.args.path.now bytes) c.program_of_bytes.result)
     c.as_slice.ensures.value c.program_of_bytes.ensures.says)

@@ -3,7 +3,7 @@ use Rattle.unit_inputs.proofs.Steps.{settled, stops_at_inputs}
 use Rattle.unit_inputs.specs.Asking.{input_asks}
 use Rattle.unit_inputs.proofs.Ordering.{order_quiet}
 use Rattle.std.proofs.Common.{◌≡◌, Some}
-use Rattle.std.specs.Prelude.{IfSome}
+use Rattle.exec_settings.specs.host_io.Agreeing.{ForFiles}
 use Rattle.unit_inputs.specs.command_answers.CommandErrors.{Prepares}
 use Rattle.unit_inputs.proofs.FileCommands.{at_stop}
 use Rattle.unit_inputs.specs.Inputs.{inputs_of, inputs_view}
@@ -13,26 +13,26 @@ use Rattle.unit_inputs.proofs.settling.settle_unit.Goals as goal
 
 pub returns-clause-settles_by_the_files : goal.returns-clause-settles_by_the_files
 returns-clause-settles_by_the_files g c =
-    settled (g.S.Shelf.told c.args.shelf.now) c.args.unit.now c.in_ok-inputs.inputs c.settle.result
+    settled (g.S.Shelf.agrees c.read_inputs.new.shelf) c.args.unit.now c.in_ok-inputs.inputs c.settle.result
     c.in_ok-inputs.ensures.reads_by_the_files c.settle.ensures.settles
 
 pub returns-clause-reads_for_the_unit : goal.returns-clause-reads_for_the_unit
-returns-clause-reads_for_the_unit g c = read_then g.S.Shelf.told g.S.Shelf.faults c.args.unit.now _ _ c.in_ok-inputs.inputs
+returns-clause-reads_for_the_unit g c = read_then g.S.Shelf.agrees g.S.Shelf.faults c.args.unit.now _ _ c.in_ok-inputs.inputs
     c.in_ok-inputs.ensures.reads_for_the_unit c.settle.result c.settle.ensures.reads_nothing
 
 pub returns-clause-asks_in_order : goal.returns-clause-asks_in_order
 returns-clause-asks_in_order g c =
-    order_quiet g.S.Shelf.asks (g.S.Shelf.told c.args.shelf.now)
+    order_quiet g.S.Shelf.asks (g.S.Shelf.agrees c.read_inputs.new.shelf)
     (λ files. input_asks files c.args.unit.now) c.args.shelf.now c.read_inputs.new.shelf c.settle.result
     c.settle.ensures.reads_nothing c.in_ok-inputs.ensures.asks_in_order
 
 pub returns-in_err-inputs-clause-settles_by_the_files : goal.returns-in_err-inputs-clause-settles_by_the_files
 returns-in_err-inputs-clause-settles_by_the_files g c =
-    at_stop (λ result. IfSome (g.S.Shelf.told c.args.shelf.now)
+    at_stop (λ result. ForFiles (g.S.Shelf.agrees c.read_inputs.new.shelf)
     (λ files. Prepares (λ (one : SettledUnit). inputs_of files c.args.unit.now ≡ Some (inputs_view one.inputs))
     (unit_refusals files c.args.unit.now) result)) c.from_residual.result c.in_err-inputs.field-0.0 c.from_residual.ensures.1
     (stops_at_inputs (λ files inputs. inputs_of files c.args.unit.now ≡ Some (inputs_view inputs))
     (λ files (one : SettledUnit). inputs_of files c.args.unit.now ≡ Some (inputs_view one.inputs))
-    (g.S.Shelf.told c.args.shelf.now) c.args.unit.now
+    (g.S.Shelf.agrees c.read_inputs.new.shelf) c.args.unit.now
     (λ files. refusals_by (refusals_of c.args.unit.now) (inputs_of files c.args.unit.now)) c.in_err-inputs.field-0.0
     c.in_err-inputs.ensures.reads_by_the_files)
