@@ -1,8 +1,9 @@
 -- A policy that weighs something weighs something of every unit.
-use Rattle.std.proofs.Common.{◌≡◌, ◌∙◌, ℕ, ◌<◌, Bool, true, List, Option, Some, None, Result, Ok, Err, sym, ap, arith, subst}
-use Rattle.std.specs.Prelude.{◌↔◌, IfOk, IfSome, IsErrOf, nat_lt}
+use Rattle.std.proofs.Common.{◌≡◌, ◌∙◌, ℕ, ◌<◌, Bool, true, List, Option, Result, Ok, Err, sym, ap, arith, subst}
+use Rattle.std.specs.Prelude.{◌↔◌, IfOk, IsErrOf, nat_lt}
 use Rattle.std.specs.Result.{IsErrAnd}
 use Rattle.report_text.specs.call_table.Table.{Table}
+use Rattle.unit_inputs.specs.host_io.Agreeing.{ForFiles}
 use Rattle.unit_inputs.specs.host_io.Files.{Files}
 use Rattle.report_text.specs.site_table.Table.{Site}
 use Rattle.unit_inputs.specs.unit_names.declared.version.Version.{Version}
@@ -45,14 +46,11 @@ weighs_something result weight answer is some never =
     (λ weightless. absurd (never weightless), λ none. absurd (weight_is_some (sym some ∙ is ∙ ap (nat_lt 0) none)))
 
 -- the outcome of a unit that its files resolve to, and that the systemd of the site reads
-module _ (table : Table) (site : Site) (policy : List PolicyTest) (stored : StoredTests) (told : Option Files) (text : List ℕ) where
+module _ (table : Table) (site : Site) (policy : List PolicyTest) (stored : StoredTests) (agrees : Files → Type 0) (text : List ℕ) where
   pub outcome_read : (systemd : Option Version) (unit read : Resolved) (result : Result FleetOutcome FleetError) → systemd ≡ site.systemd
-      → IfSome told (λ files. resolved_of files text ≡ Ok unit) → read ≡ read_by systemd unit
+      → ForFiles agrees (λ files. resolved_of files text ≡ Ok unit) → read ≡ read_by systemd unit
       → IfOk result (IsOutcomeOf table site policy stored read)
-      → IfSome told (λ files. IfOk result (IsOutcome table site policy stored (resolved_of files text)))
-  outcome_read systemd unit read result version resolves same made = by told resolves where
-    by : (some : Option Files) → IfSome some (λ files. resolved_of files text ≡ Ok unit)
-        → IfSome some (λ files. IfOk result (IsOutcome table site policy stored (resolved_of files text)))
-    by None none = tt
-    by (Some files) is = subst (λ found. IfOk result (IsOutcome table site policy stored found)) (sym is)
-        (subst (λ own. IfOk result (IsOutcomeOf table site policy stored own)) (same ∙ ap (λ own. read_by own unit) version) made)
+      → ForFiles agrees (λ files. IfOk result (IsOutcome table site policy stored (resolved_of files text)))
+  outcome_read systemd unit read result version resolves same made files agree =
+      subst (λ found. IfOk result (IsOutcome table site policy stored found)) (sym (resolves files agree))
+      (subst (λ own. IfOk result (IsOutcomeOf table site policy stored own)) (same ∙ ap (λ own. read_by own unit) version) made)

@@ -1,6 +1,7 @@
 -- What is ready, and the line of a refusal, are what the definitions admit.
-use Rattle.std.proofs.Common.{◌≡◌, ◌∙◌, ℕ, Option, Some, None, List, [], ◌∷◌, Vec, Global, Ok, Err, refl, sym, ap, subst}
-use Rattle.std.specs.Prelude.{IfSome, IsTrue}
+use Rattle.std.proofs.Common.{◌≡◌, ◌∙◌, ℕ, Option, List, [], ◌∷◌, Vec, Global, Ok, Err, refl, sym, ap, subst}
+use Rattle.std.specs.Prelude.{IsTrue}
+use Rattle.unit_inputs.specs.host_io.Agreeing.{ForFiles}
 use Rattle.unit_inputs.specs.host_io.Files.{Files}
 use Rattle.report_text.specs.exposure_score.StoredTests.{StoredTests}
 use Rattle.report_text.specs.exposure_score.policy_weights.Weights.{weight_of}
@@ -23,34 +24,33 @@ use Rattle.score_command.specs.fleet_command.Refusals.{fleet_refusals, read_refu
 use Rattle.score_command.specs.fleet_command.Reports.{AreFleet}
 use Rattle.score_command.specs.declared.fleet_command.preparing.FleetInputs.{FleetInputs}
 
-module _ (told : Option Files) (path : List ℕ) (stored : StoredTests) where
+module _ (agrees : Files → Type 0) (path : List ℕ) (stored : StoredTests) where
   -- a report ends as done
   answered : (status : ExitStatus) → status ≡ Done → IsTrue (is_answer status)
   answered status done = subst (λ e. IsTrue (is_answer e)) (sym done) refl
 
-  pub together : GoTogether (laws_over told (fleet_laws path stored))
-  together = go_together (fleet_laws path stored) told answered
+  pub together : GoTogether (laws_over agrees (fleet_laws path stored))
+  together = go_together (fleet_laws path stored) agrees answered
 
-module _ (told : Option Files) (path : List ℕ) (stored : StoredTests) where
+module _ (agrees : Files → Type 0) (path : List ℕ) (stored : StoredTests) where
   -- something is refused before the first unit is read
   pub stops_before_units : (why : CommandError)
-      → IfSome told (λ files. Prepares {T = FleetInputs} (λ inputs. AreInputs files path (inputs_view inputs)) (read_refusals files path)
+      → ForFiles agrees (λ files. Prepares {T = FleetInputs} (λ inputs. AreInputs files path (inputs_view inputs)) (read_refusals files path)
       (Err why))
-      → IsAdmitted (laws_over told (fleet_laws path stored)) status_of text_of (Err why)
-  stops_before_units why said = stop_is_admitted (fleet_laws path stored) status_of text_of (λ (inputs : FleetInputs). Unit {0}) told why
-      (refused told said)
+      → IsAdmitted (laws_over agrees (fleet_laws path stored)) status_of text_of (Err why)
+  stops_before_units why said = stop_is_admitted (fleet_laws path stored) status_of text_of (λ (inputs : FleetInputs). Unit {0}) agrees why
+      (refused agrees said)
     where
-      refused : (told : Option Files)
-          → IfSome told (λ files. Prepares {T = FleetInputs} (λ inputs. AreInputs files path (inputs_view inputs))
+      refused : (agrees : Files → Type 0)
+          → ForFiles agrees (λ files. Prepares {T = FleetInputs} (λ inputs. AreInputs files path (inputs_view inputs))
           (read_refusals files path) (Err why))
-          → IfSome told (λ files. Prepares (λ (inputs : FleetInputs). Unit {0}) (fleet_refusals files path stored) (Err why))
-      refused None said = tt
-      refused (Some files) said =
+          → ForFiles agrees (λ files. Prepares (λ (inputs : FleetInputs). Unit {0}) (fleet_refusals files path stored) (Err why))
+      refused agrees said files agree =
           stops_before (λ (inputs : FleetInputs). AreInputs files path (inputs_view inputs)) (λ (inputs : FleetInputs). Unit {0}) why
           (read_refusals files path)
-          (weights_in path stored (calls_in files) (policy_in files path)) said
+          (weights_in path stored (calls_in files) (policy_in files path)) (said files agree)
 
-  module _ (inputs : FleetInputs) (read : IfSome told (λ files. Prepares {T = FleetInputs} (λ inputs. AreInputs files path (inputs_view inputs)) (read_refusals files path) (Ok inputs))) where
+  module _ (inputs : FleetInputs) (read : ForFiles agrees (λ files. Prepares {T = FleetInputs} (λ inputs. AreInputs files path (inputs_view inputs)) (read_refusals files path) (Ok inputs))) where
     -- what is refused behind the inputs is a policy that weighs nothing
     pub refused_as : (files : Files) → Prepares {T = FleetInputs} (λ inputs. AreInputs files path (inputs_view inputs))
         (read_refusals files path) (Ok inputs)
@@ -62,11 +62,11 @@ module _ (told : Option Files) (path : List ℕ) (stored : StoredTests) where
         ∙ ap (λ policy. first_refusal (weights_in path stored (Ok (inputs_view inputs).calls) policy)) is.1.policy
 
     pub stops_at_weights : (why : CommandError)
-        → IfSome told (λ files. Prepares {T = Vec FleetRow Global} (λ rows. AreFleet files (inputs_view inputs) stored rows.items)
+        → ForFiles agrees (λ files. Prepares {T = Vec FleetRow Global} (λ rows. AreFleet files (inputs_view inputs) stored rows.items)
         (weight_refusal path (weight_of (inputs_view inputs).calls stored (inputs_view inputs).policy) ∷ []) (Err why))
-        → IsAdmitted (laws_over told (fleet_laws path stored)) status_of text_of (Err why)
+        → IsAdmitted (laws_over agrees (fleet_laws path stored)) status_of text_of (Err why)
     stops_at_weights why said = stop_is_admitted (fleet_laws path stored) status_of text_of
-        (λ (rows : Vec FleetRow Global). Unit {0}) told why (refused told read said)
+        (λ (rows : Vec FleetRow Global). Unit {0}) agrees why (refused agrees read said)
       where
         as_any : (refusals : List (Option (List ℕ))) (P : Vec FleetRow Global → Type 0) (why : CommandError) → Prepares P refusals (Err why)
             → Prepares (λ (rows : Vec FleetRow Global). Unit {0}) refusals (Err why)
@@ -74,43 +74,41 @@ module _ (told : Option Files) (path : List ℕ) (stored : StoredTests) where
         as_any refusals P stop.ReadFault said = tt
         as_any refusals P stop.Memory said = tt
 
-        refused : (told : Option Files)
-            → IfSome told (λ files. Prepares {T = FleetInputs} (λ inputs. AreInputs files path (inputs_view inputs))
+        refused : (agrees : Files → Type 0)
+            → ForFiles agrees (λ files. Prepares {T = FleetInputs} (λ inputs. AreInputs files path (inputs_view inputs))
             (read_refusals files path) (Ok inputs))
-            → IfSome told (λ files. Prepares {T = Vec FleetRow Global} (λ rows. AreFleet files (inputs_view inputs) stored rows.items)
+            → ForFiles agrees (λ files. Prepares {T = Vec FleetRow Global} (λ rows. AreFleet files (inputs_view inputs) stored rows.items)
             (weight_refusal path (weight_of (inputs_view inputs).calls stored (inputs_view inputs).policy) ∷ []) (Err why))
-            → IfSome told (λ files. Prepares (λ (rows : Vec FleetRow Global). Unit {0}) (fleet_refusals files path stored) (Err why))
-        refused None is said = tt
-        refused (Some files) is said =
+            → ForFiles agrees (λ files. Prepares (λ (rows : Vec FleetRow Global). Unit {0}) (fleet_refusals files path stored) (Err why))
+        refused agrees is said files agree =
             stops_as (λ (rows : Vec FleetRow Global). Unit {0}) why
             (weight_refusal path (weight_of (inputs_view inputs).calls stored (inputs_view inputs).policy) ∷ [])
-            (fleet_refusals files path stored) (refused_as files is)
+            (fleet_refusals files path stored) (refused_as files (is files agree))
             (as_any (weight_refusal path (weight_of (inputs_view inputs).calls stored (inputs_view inputs).policy) ∷ [])
-            (λ rows. AreFleet files (inputs_view inputs) stored rows.items) why said)
+            (λ rows. AreFleet files (inputs_view inputs) stored rows.items) why (said files agree))
 
     -- the rows are ready
     pub ready : (rows : Vec FleetRow Global)
-        → IfSome told (λ files. Prepares {T = Vec FleetRow Global} (λ rows. AreFleet files (inputs_view inputs) stored rows.items)
+        → ForFiles agrees (λ files. Prepares {T = Vec FleetRow Global} (λ rows. AreFleet files (inputs_view inputs) stored rows.items)
         (weight_refusal path (weight_of (inputs_view inputs).calls stored (inputs_view inputs).policy) ∷ []) (Ok rows))
-        → IsAdmitted (laws_over told (fleet_laws path stored)) status_of text_of (Ok (record { rows = rows }))
-    ready rows made = ready_is_admitted (fleet_laws path stored) status_of text_of told (record { rows = rows }) refl
-        (prints_it told read made)
+        → IsAdmitted (laws_over agrees (fleet_laws path stored)) status_of text_of (Ok (record { rows = rows }))
+    ready rows made = ready_is_admitted (fleet_laws path stored) status_of text_of agrees (record { rows = rows }) refl
+        (prints_it agrees read made)
       where
-        prints_it : (told : Option Files)
-            → IfSome told (λ files. Prepares {T = FleetInputs} (λ inputs. AreInputs files path (inputs_view inputs))
+        prints_it : (agrees : Files → Type 0)
+            → ForFiles agrees (λ files. Prepares {T = FleetInputs} (λ inputs. AreInputs files path (inputs_view inputs))
             (read_refusals files path) (Ok inputs))
-            → IfSome told (λ files. Prepares {T = Vec FleetRow Global} (λ rows. AreFleet files (inputs_view inputs) stored rows.items)
+            → ForFiles agrees (λ files. Prepares {T = Vec FleetRow Global} (λ rows. AreFleet files (inputs_view inputs) stored rows.items)
             (weight_refusal path (weight_of (inputs_view inputs).calls stored (inputs_view inputs).policy) ∷ []) (Ok rows))
-            → IfSome told (λ files. AcceptsFiles (fleet_laws path stored) files × PrintsFleet files path stored
+            → ForFiles agrees (λ files. AcceptsFiles (fleet_laws path stored) files × PrintsFleet files path stored
             (text_of (record { rows = rows })))
-        prints_it None is made = tt
-        prints_it (Some files) is made = (
-          refused_as files is ∙ made.0,
+        prints_it agrees is made files agree = (
+          refused_as files (is files agree) ∙ (made files agree).0,
           record {
             inputs = inputs_view inputs;
-            are_inputs = is.1;
+            are_inputs = (is files agree).1;
             rows = rows.items;
-            are_rows = made.1;
+            are_rows = (made files agree).1;
             is_their_text = refl;
           },
         )

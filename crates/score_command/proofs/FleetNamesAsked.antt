@@ -1,13 +1,12 @@
 -- The calls by which folders are listed.
-use Rattle.std.proofs.Common.{◌≡◌, ℕ, ◌+◌, ◌<◌, true, List, [], ◌∷◌, drop, get_or, length, Option, Some, Ok, Err, map, Vec, String, Global}
+use Rattle.std.proofs.Common.{◌≡◌, ℕ, ◌+◌, ◌<◌, true, List, [], ◌∷◌, drop, get_or, length, Ok, Err, map, Vec, String, Global}
 use Rattle.std.proofs.Common.{Bor, refl, ◌∙◌, subst}
-use Rattle.std.specs.Prelude.{IfSome}
+use Rattle.unit_inputs.specs.host_io.Agreeing.{ForFiles}
 use Rattle.unit_inputs.specs.host_io.Calls.{ShelfCall, Whole, Cut, AsksExactly, NamesIn}
 use Rattle.unit_inputs.specs.host_io.Files.{Files, names_in}
 use Rattle.unit_inputs.proofs.OfHostIo.Calling.{Going, goes_on, stops_there, went_cut}
 use Rattle.report_text.specs.dropin_merge.Asking.{folder_asks}
 use Rattle.report_text.specs.dropin_merge.Resolving.{is_overfull}
-use Rattle.report_text.proofs.OfDropinMerge.Reading.{told_from, told_to}
 use Rattle.score_command.specs.fleet_command.fleet_names.Asking.{course}
 use Rattle.score_command.specs.fleet_command.fleet_names.Steps.{ListsFolder}
 use Rattle.score_command.specs.declared.fleet_command.fleet_names.errors.NamesError.{NamesError}
@@ -31,35 +30,33 @@ abbrev pub GoesThrough : {S : Type 0} → (S → ShelfCall → S → Type 0) →
 GoesThrough asks a b folders i files = Going asks a b (folder_asks files (map (λ folder. folder.now) folders))
     (folder_asks files (map (λ folder. folder.now) (drop i folders)))
 
-module _ {S : Type 0} (asks : S → ShelfCall → S → Type 0) (start told : Option Files) (same : told ≡ start) (a b c : S)
+module _ {S : Type 0} (asks : S → ShelfCall → S → Type 0) (between agrees : Files → Type 0) (stays : ForFiles agrees between) (a b c : S)
     (folders : List (Bor (List ℕ))) (i : ℕ) (d : Bor (List ℕ)) (h : i < length folders)
-    (going : (files : Files) → start ≡ Some files → GoesThrough asks a b folders i files) where
-  at_folder : (files : Files) → start ≡ Some files
+    (going : (files : Files) → between files → GoesThrough asks a b folders i files) where
+  at_folder : (files : Files) → agrees files
       → Going asks a b (folder_asks files (map (λ folder. folder.now) folders))
       (folder_asks files ((get_or folders i d).now ∷ map (λ folder. folder.now) (drop (i + 1) folders)))
   at_folder files known =
       subst (λ left. Going asks a b (folder_asks files (map (λ (folder : Bor (List ℕ)). folder.now) folders)) (folder_asks files left))
-      (texts_left folders i d h) (going files known)
+      (texts_left folders i d h) (going files (stays files known))
 
   -- a folder that is listed
-  pub folder_more : (names : Vec (String Global) Global) → IfSome told
+  pub folder_more : (names : Vec (String Global) Global) → ForFiles agrees
       (λ files. ListsFolder (names_in files (get_or folders i d).now) (Ok names))
       → AsksExactly asks b c (NamesIn (get_or folders i d).now ∷ []) Whole
-      → (files : Files) → start ≡ Some files → GoesThrough asks a c folders (i + 1) files
+      → (files : Files) → agrees files → GoesThrough asks a c folders (i + 1) files
   folder_more names listed made files known =
       goes_on asks (is_overfull files) NamesIn a b c (folder_asks files (map (λ (folder : Bor (List ℕ)). folder.now) folders))
       (get_or folders i d).now (map (λ (folder : Bor (List ℕ)). folder.now) (drop (i + 1) folders))
-      (told_from (λ files. ListsFolder (names_in files (get_or folders i d).now) (Ok names)) told listed files (same ∙ known)).1
+      (listed files known).1
       (at_folder files known) made
 
   -- one that is not
-  pub folder_stops : (T : Type 0) (error : NamesError) → IfSome told
+  pub folder_stops : (T : Type 0) (error : NamesError) → ForFiles agrees
       (λ files. ListsFolder (names_in files (get_or folders i d).now) (Err error))
       → AsksExactly asks b c (NamesIn (get_or folders i d).now ∷ []) (course {T = Vec (String Global) Global} (Err error))
-      → IfSome start (λ files. AsksExactly asks a c (folder_asks files (map (λ folder. folder.now) folders)) (course {T = T} (Err error)))
+      → ForFiles agrees (λ files. AsksExactly asks a c (folder_asks files (map (λ folder. folder.now) folders)) (course {T = T} (Err error)))
   folder_stops T error listed made =
-      told_to (λ files. AsksExactly asks a c (folder_asks files (map (λ (folder : Bor (List ℕ)). folder.now) folders))
-      (course {T = T} (Err error))) start
       (λ files known.
       subst (AsksExactly asks a c (folder_asks files (map (λ (folder : Bor (List ℕ)). folder.now) folders)))
       (course_as (Vec (String Global) Global) T error)
@@ -67,14 +64,13 @@ module _ {S : Type 0} (asks : S → ShelfCall → S → Type 0) (start told : Op
       (get_or folders i d).now (map (λ (folder : Bor (List ℕ)). folder.now) (drop (i + 1) folders))
       (course {T = Vec (String Global) Global} (Err error))
       (refused_is_overfull files (get_or folders i d).now error
-      (told_from (λ files. ListsFolder (names_in files (get_or folders i d).now) (Err error)) told listed files (same ∙ known)))
+      (listed files known))
       (at_folder files known) made))
 
   -- memory ran out behind one that is listed
   pub folder_cut : AsksExactly asks b c (NamesIn (get_or folders i d).now ∷ []) Whole
-      → IfSome start (λ files. AsksExactly asks a c (folder_asks files (map (λ folder. folder.now) folders)) Cut)
+      → ForFiles agrees (λ files. AsksExactly asks a c (folder_asks files (map (λ folder. folder.now) folders)) Cut)
   folder_cut made =
-      told_to (λ files. AsksExactly asks a c (folder_asks files (map (λ (folder : Bor (List ℕ)). folder.now) folders)) Cut) start
       (λ files known.
       stops_there asks (is_overfull files) NamesIn a b c (folder_asks files (map (λ (folder : Bor (List ℕ)). folder.now) folders))
       (get_or folders i d).now (map (λ (folder : Bor (List ℕ)). folder.now) (drop (i + 1) folders))

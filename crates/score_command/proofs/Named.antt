@@ -1,13 +1,14 @@
 -- The units of a host, by the map that holds them.
-use Rattle.std.proofs.Common.{◌≡◌, ℕ, ◌<◌, ◌≤◌, Bool, true, false, cond, length, Option, None, Ok, Err, map, Vec, String, Global, refl, sym}
+use Rattle.std.proofs.Common.{◌≡◌, ℕ, ◌<◌, ◌≤◌, Bool, true, false, cond, length, None, Ok, Err, map, Vec, String, Global, refl, sym}
 use Rattle.std.proofs.Common.{ap, ◌∙◌, arith}
-use Rattle.std.specs.Prelude.{◌||◌, nat_lt, IfSome, flat_map}
+use Rattle.std.specs.Prelude.{◌||◌, nat_lt, flat_map}
 use Rattle.std.specs.List.{list_any}
 use Rattle.std.specs.Map.{values_of}
 use Rattle.std.specs.String.{string_cmp}
 use Rattle.std.specs.BTreeMap.{BTreeMap, IsOrdered}
 use Rattle.std.proofs.lemmas.Bool.Decides.{nat_tests}
 use Rattle.std.proofs.lemmas.Map.Entries.{length-values_of}
+use Rattle.unit_inputs.specs.host_io.Agreeing.{ForFiles}
 use Rattle.unit_inputs.specs.host_io.Files.{Files, names_in}
 use Rattle.unit_inputs.specs.unit_names.Cutting.{name_of}
 use Rattle.unit_inputs.specs.unit_names.Names.{Name}
@@ -15,7 +16,6 @@ use Rattle.report_text.specs.dropin_merge.Places.{locations}
 use Rattle.report_text.specs.dropin_merge.Resolving.{is_overfull}
 use Rattle.report_text.specs.dropin_merge.Winners.{in_byte_order}
 use Rattle.report_text.proofs.OfDropinMerge.Ordered.{any-in_byte_order, in_byte_order-sorted}
-use Rattle.report_text.proofs.OfDropinMerge.Reading.{told_from, told_to}
 use Rattle.score_command.specs.fleet_command.fleet_names.Answers.{AreNamed}
 use Rattle.score_command.specs.fleet_command.fleet_names.Steps.{CollectsUnits}
 use Rattle.score_command.specs.fleet_command.fleet_names.Units.{are_too_many, units_of}
@@ -60,21 +60,19 @@ module _ (files : Files) (units : BTreeMap (String Global) Name) (ordered : IsOr
   pub few : length units.entries ≤ 1024 → are_too_many files ≡ false
   few h = ap (λ b. b || nat_lt 1024 (length (units_of files))) collected.1 ∙ ap (nat_lt 1024) count_is ∙ not_above (length units.entries) h
 
--- what was answered of the files that are told
-module _ (told : Option Files) where
+-- what was answered of the files that agree
+module _ (agrees : Files → Type 0) where
   pub refuses_many : (units : BTreeMap (String Global) Name) → IsOrdered string_cmp units
-      → IfSome told (λ files. CollectsUnits files locations (Ok units)) → 1024 < length units.entries
-      → IfSome told (λ files. AreNamed files (Err TooMany))
+      → ForFiles agrees (λ files. CollectsUnits files locations (Ok units)) → 1024 < length units.entries
+      → ForFiles agrees (λ files. AreNamed files (Err TooMany))
   refuses_many units ordered collected h =
-      told_to (λ files. AreNamed files (Err TooMany)) told
       (λ files known. too_many files units ordered
-      (told_from (λ files. CollectsUnits files locations (Ok units)) told collected files known) h)
+      (collected files known) h)
 
   pub names_units : (units : BTreeMap (String Global) Name) (names : Vec Name Global) → IsOrdered string_cmp units
-      → IfSome told (λ files. CollectsUnits files locations (Ok units)) → length units.entries ≤ 1024
-      → names.items ≡ values_of units.entries → IfSome told (λ files. AreNamed files (Ok names))
+      → ForFiles agrees (λ files. CollectsUnits files locations (Ok units)) → length units.entries ≤ 1024
+      → names.items ≡ values_of units.entries → ForFiles agrees (λ files. AreNamed files (Ok names))
   names_units units names ordered collected h given =
-      told_to (λ files. AreNamed files (Ok names)) told
       (λ files known.
-      let own = told_from (λ files. CollectsUnits files locations (Ok units)) told collected files known in
+      let own = collected files known in
       (few files units ordered own h, given ∙ values_are files units ordered own))

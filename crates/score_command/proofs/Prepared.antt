@@ -1,7 +1,8 @@
 -- What is ready, and the line of a refusal, are what the definitions admit.
-use Rattle.std.proofs.Common.{◌≡◌, ◌∙◌, ℕ, Bool, true, false, Option, Some, None, List, [], ◌∷◌, Result, Ok, Err, refl, sym, ap, subst, inl}
+use Rattle.std.proofs.Common.{◌≡◌, ◌∙◌, ℕ, Bool, true, false, None, List, [], ◌∷◌, Result, Ok, Err, refl, sym, ap, subst, inl}
 use Rattle.std.proofs.Common.{inr}
-use Rattle.std.specs.Prelude.{◌⊎◌, nat_lt, IfSome, IsErrOf, IsTrue}
+use Rattle.std.specs.Prelude.{◌⊎◌, nat_lt, IsErrOf, IsTrue}
+use Rattle.unit_inputs.specs.host_io.Agreeing.{ForFiles}
 use Rattle.unit_inputs.specs.host_io.Files.{Files}
 use Rattle.report_text.specs.exposure_score.Rows.{counted_weight}
 use Rattle.report_text.specs.exposure_score.StoredTests.{StoredTests}
@@ -30,14 +31,14 @@ use Rattle.score_command.specs.Weighed.{IsScoreOf}
 use Rattle.score_command.specs.Weights.{weight_refusal}
 use Rattle.score_command.specs.declared.preparing.Prepared.{Prepared}
 
-module _ (told : Option Files) (unit path : List ℕ) (threshold : ℕ) (stored : StoredTests) where
+module _ (agrees : Files → Type 0) (unit path : List ℕ) (threshold : ℕ) (stored : StoredTests) where
   -- each ending behind a score is an answer
   answered : (status : ExitStatus) → (score_laws unit path threshold stored).may_end status → IsTrue (is_answer status)
   answered status (inl done) = subst (λ e. IsTrue (is_answer e)) (sym done) refl
   answered status (inr above) = subst (λ e. IsTrue (is_answer e)) (sym above) refl
 
-  pub together : GoTogether (laws_over told (score_laws unit path threshold stored))
-  together = go_together (score_laws unit path threshold stored) told answered
+  pub together : GoTogether (laws_over agrees (score_laws unit path threshold stored))
+  together = go_together (score_laws unit path threshold stored) agrees answered
 
 -- a score ends as done, or is above the threshold
 one_of_two : (above : Bool) (score : Score) (threshold : ℕ) → nat_lt threshold score.exposure ≡ above
@@ -45,20 +46,19 @@ one_of_two : (above : Bool) (score : Score) (threshold : ℕ) → nat_lt thresho
 one_of_two true score threshold is = inr cc
 one_of_two false score threshold is = inl cc
 
-module _ (told : Option Files) (unit path : List ℕ) (threshold : ℕ) (stored : StoredTests) where
+module _ (agrees : Files → Type 0) (unit path : List ℕ) (threshold : ℕ) (stored : StoredTests) where
   -- something is refused before anything is weighed
   pub stops_before_weighing : (stop : CommandError)
-      → IfSome told (λ files. Prepares (IsPrepared files unit path) (read_refusals files unit path) (Err stop))
-      → IsAdmitted (laws_over told (score_laws unit path threshold stored)) status_of scored_text (Err stop)
+      → ForFiles agrees (λ files. Prepares (IsPrepared files unit path) (read_refusals files unit path) (Err stop))
+      → IsAdmitted (laws_over agrees (score_laws unit path threshold stored)) status_of scored_text (Err stop)
   stops_before_weighing stop said = stop_is_admitted (score_laws unit path threshold stored) status_of scored_text
-      (λ (prepared : Prepared). Unit {0}) told stop (refused told said)
+      (λ (prepared : Prepared). Unit {0}) agrees stop (refused agrees said)
     where
-      refused : (told : Option Files)
-          → IfSome told (λ files. Prepares (IsPrepared files unit path) (read_refusals files unit path) (Err stop))
-          → IfSome told (λ files. Prepares (λ (prepared : Prepared). Unit {0}) (score_refusals files unit path stored) (Err stop))
-      refused None said = tt
-      refused (Some files) said = stops_before (IsPrepared files unit path) (λ (prepared : Prepared). Unit {0}) stop
-          (read_refusals files unit path) (refusals_by (weight_refusals files path stored) (inputs_of files unit)) said
+      refused : (agrees : Files → Type 0)
+          → ForFiles agrees (λ files. Prepares (IsPrepared files unit path) (read_refusals files unit path) (Err stop))
+          → ForFiles agrees (λ files. Prepares (λ (prepared : Prepared). Unit {0}) (score_refusals files unit path stored) (Err stop))
+      refused agrees said files agree = stops_before (IsPrepared files unit path) (λ (prepared : Prepared). Unit {0}) stop
+          (read_refusals files unit path) (refusals_by (weight_refusals files path stored) (inputs_of files unit)) (said files agree)
 
   module _ (prepared : Prepared) (facts : Facts) (are : AreFacts (inputs_in prepared).unit (inputs_in prepared).calls prepared.unit.settings.value facts) where
     -- what the facts leave of the weights is what the table of tests leaves
@@ -75,45 +75,43 @@ module _ (told : Option Files) (unit path : List ℕ) (threshold : ℕ) (stored 
 
     -- the policy weighs nothing
     pub stops_at_weights : (P : Score → Type 0) (stop : CommandError)
-        → IfSome told (λ files. Prepares (IsPrepared files unit path) (read_refusals files unit path) (Ok prepared))
+        → ForFiles agrees (λ files. Prepares (IsPrepared files unit path) (read_refusals files unit path) (Ok prepared))
         → Prepares P (weight_refusal path (counted_weight stored.id_of facts.tests stored.tests prepared.policy) ∷ []) (Err stop)
-        → IsAdmitted (laws_over told (score_laws unit path threshold stored)) status_of scored_text (Err stop)
-    stops_at_weights P stop is said = stop_is_admitted (score_laws unit path threshold stored) status_of scored_text P told stop
-        (refused told is)
+        → IsAdmitted (laws_over agrees (score_laws unit path threshold stored)) status_of scored_text (Err stop)
+    stops_at_weights P stop is said = stop_is_admitted (score_laws unit path threshold stored) status_of scored_text P agrees stop
+        (refused agrees is)
       where
-        refused : (told : Option Files)
-            → IfSome told (λ files. Prepares (IsPrepared files unit path) (read_refusals files unit path) (Ok prepared))
-            → IfSome told (λ files. Prepares P (score_refusals files unit path stored) (Err stop))
-        refused None is = tt
-        refused (Some files) is =
+        refused : (agrees : Files → Type 0)
+            → ForFiles agrees (λ files. Prepares (IsPrepared files unit path) (read_refusals files unit path) (Ok prepared))
+            → ForFiles agrees (λ files. Prepares P (score_refusals files unit path stored) (Err stop))
+        refused agrees is files agree =
             stops_as P stop (weight_refusal path (counted_weight stored.id_of facts.tests stored.tests prepared.policy) ∷ [])
-            (score_refusals files unit path stored) (refused_as files is) said
+            (score_refusals files unit path stored) (refused_as files (is files agree)) said
 
     -- the score is ready
-    pub ready : (score : Score) → CanBeWeighed prepared → IfSome told
+    pub ready : (score : Score) → CanBeWeighed prepared → ForFiles agrees
         (λ files. Prepares (IsPrepared files unit path) (read_refusals files unit path) (Ok prepared))
         → Prepares (IsScoreOf stored facts prepared.policy)
         (weight_refusal path (counted_weight stored.id_of facts.tests stored.tests prepared.policy) ∷ []) (Ok score)
-        → IsAdmitted (laws_over told (score_laws unit path threshold stored)) status_of scored_text
+        → IsAdmitted (laws_over agrees (score_laws unit path threshold stored)) status_of scored_text
         (Ok (record { score = score; threshold = threshold }))
     ready score can is weighed =
-        ready_is_admitted (score_laws unit path threshold stored) status_of scored_text told
+        ready_is_admitted (score_laws unit path threshold stored) status_of scored_text agrees
         (record { score = score; threshold = threshold })
-        (one_of_two (nat_lt threshold score.exposure) score threshold refl) (prints_it told is)
+        (one_of_two (nat_lt threshold score.exposure) score threshold refl) (prints_it agrees is)
       where
-        prints_it : (told : Option Files)
-            → IfSome told (λ files. Prepares (IsPrepared files unit path) (read_refusals files unit path) (Ok prepared))
-            → IfSome told (λ files. AcceptsFiles (score_laws unit path threshold stored) files × PrintsScore files unit path threshold
+        prints_it : (agrees : Files → Type 0)
+            → ForFiles agrees (λ files. Prepares (IsPrepared files unit path) (read_refusals files unit path) (Ok prepared))
+            → ForFiles agrees (λ files. AcceptsFiles (score_laws unit path threshold stored) files × PrintsScore files unit path threshold
             stored (status_of (record { score = score; threshold = threshold }))
             (scored_text (record { score = score; threshold = threshold })))
-        prints_it None is = tt
-        prints_it (Some files) is = (
-          refused_as files is ∙ weighed.0,
+        prints_it agrees is files agree = (
+          refused_as files (is files agree) ∙ weighed.0,
           record {
             inputs = inputs_in prepared;
-            inputs_are = is.1.inputs;
+            inputs_are = (is files agree).1.inputs;
             policy = prepared.policy;
-            policy_is = is.1.policy;
+            policy_is = (is files agree).1.policy;
             settings = prepared.unit.settings.value;
             are_settings = can.settled;
             facts = facts;

@@ -1,10 +1,11 @@
 -- A report of all units, or the line of a policy that weighs nothing.
-use Rattle.std.proofs.Common.{◌≡◌, ◌∙◌, ℕ, Bool, true, false, Option, Some, None, List, [], ◌∷◌, map, Vec, Global, Result, Ok, Err, refl}
+use Rattle.std.proofs.Common.{◌≡◌, ◌∙◌, ℕ, Bool, true, false, Some, None, List, [], ◌∷◌, map, Vec, Global, Result, Ok, Err, refl}
 use Rattle.std.proofs.Common.{sym, ap, subst, cond, arith}
-use Rattle.std.specs.Prelude.{◌↔◌, ◌==◌, IfOk, IfSome, IsErrOf, IsPermutation}
+use Rattle.std.specs.Prelude.{◌↔◌, ◌==◌, IfOk, IsErrOf, IsPermutation}
 use Rattle.std.specs.List.{All}
 use Rattle.std.specs.declared.alloc.AllocError.{AllocError}
 use Rattle.std.proofs.lemmas.Bool.Decides.{nat_tests}
+use Rattle.unit_inputs.specs.host_io.Agreeing.{ForFiles}
 use Rattle.unit_inputs.specs.host_io.Files.{Files}
 use Rattle.unit_inputs.specs.unit_names.Names.{Name}
 use Rattle.report_text.specs.call_table.Table.{Table}
@@ -41,44 +42,42 @@ abbrev made : List Name → Table → Site → List PolicyTest → Inputs
 made names table site policy = record { names = names; calls = table; site = site; policy = policy }
 
 -- a report by what is read
-by_inputs : (told : Option Files) (path : List ℕ) (inputs : Inputs) (stored : StoredTests) (rows : Vec FleetRow Global)
+by_inputs : (agrees : Files → Type 0) (path : List ℕ) (inputs : Inputs) (stored : StoredTests) (rows : Vec FleetRow Global)
     → IsErrOf {T = Vec FleetRow Global} (Ok rows) NoWeight ↔ (weight_of inputs.calls stored inputs.policy ≡ 0)
     → IsPermutation inputs.names (map (λ row. row.name) rows.items)
-    → IfSome told (λ files. All (IsRowOf files inputs.calls inputs.site inputs.policy stored) rows.items)
+    → ForFiles agrees (λ files. All (IsRowOf files inputs.calls inputs.site inputs.policy stored) rows.items)
     → AreInOrder rows.items
-    → IfSome told (λ files. Prepares {T = Vec FleetRow Global} (λ rows. AreFleet files inputs stored rows.items)
+    → ForFiles agrees (λ files. Prepares {T = Vec FleetRow Global} (λ rows. AreFleet files inputs stored rows.items)
     (weight_refusal path (weight_of inputs.calls stored inputs.policy) ∷ []) (Ok rows))
-by_inputs None path inputs stored rows weightless each by_files order = tt
-by_inputs (Some files) path inputs stored rows weightless each by_files order = (
+by_inputs agrees path inputs stored rows weightless each by_files order files agree = (
   weighs_something path (weight_of inputs.calls stored inputs.policy) (λ none. never_both rows (weightless.1 none)),
-  record { a_row_a_name = each; by_their_files = by_files; least_protected_first = order },
+  record { a_row_a_name = each; by_their_files = (by_files files agree); least_protected_first = order },
 )
 
 -- and by what is lent of it
-pub reported : (told : Option Files) (path : List ℕ) (inputs : FleetInputs) (stored : StoredTests) (names : List Name) (table : Table)
+pub reported : (agrees : Files → Type 0) (path : List ℕ) (inputs : FleetInputs) (stored : StoredTests) (names : List Name) (table : Table)
     (site : Site) (rows : Vec FleetRow Global)
     → names ≡ inputs.names.items → table ≡ inputs.calls.value → site ≡ inputs.site.value
     → IsErrOf {T = Vec FleetRow Global} (Ok rows) NoWeight ↔ (weight_of table stored inputs.policy ≡ 0)
     → IsPermutation names (map (λ row. row.name) rows.items)
-    → IfSome told (λ files. All (IsRowOf files table site inputs.policy stored) rows.items)
+    → ForFiles agrees (λ files. All (IsRowOf files table site inputs.policy stored) rows.items)
     → AreInOrder rows.items
-    → IfSome told (λ files. Prepares {T = Vec FleetRow Global} (λ rows. AreFleet files (inputs_view inputs) stored rows.items)
+    → ForFiles agrees (λ files. Prepares {T = Vec FleetRow Global} (λ rows. AreFleet files (inputs_view inputs) stored rows.items)
     (weight_refusal path (weight_of (inputs_view inputs).calls stored (inputs_view inputs).policy) ∷ []) (Ok rows))
-reported told path inputs stored names table site rows first second third weightless each by_files order =
+reported agrees path inputs stored names table site rows first second third weightless each by_files order =
     let same : made names table site inputs.policy ≡ inputs_view inputs =
     ap (λ own. made own table site inputs.policy) first ∙ ap (λ own. made inputs.names.items own site inputs.policy) second ∙ ap (λ own. made inputs.names.items inputs.calls.value own inputs.policy) third in
-    subst (λ (own : Inputs). IfSome told
+    subst (λ (own : Inputs). ForFiles agrees
     (λ files. Prepares {T = Vec FleetRow Global} (λ rows. AreFleet files own stored rows.items)
     (weight_refusal path (weight_of own.calls stored own.policy) ∷ []) (Ok rows))) same
-    (by_inputs told path (made names table site inputs.policy) stored rows weightless each by_files order)
+    (by_inputs agrees path (made names table site inputs.policy) stored rows weightless each by_files order)
 
 -- and one that weighs nothing has its line
-pub weightless : {T : Type 0} (told : Option Files) (P : Files → T → Type 0) (path : List ℕ) (weight : ℕ)
+pub weightless : {T : Type 0} (agrees : Files → Type 0) (P : Files → T → Type 0) (path : List ℕ) (weight : ℕ)
     (line : Result (Vec ℕ Global) AllocError) (why : CommandError) → weight ≡ 0 → why ≡ error_of_line line
     → IfOk line (λ line. line.items ≡ no_weight_line path)
-    → IfSome told (λ files. Prepares (P files) (weight_refusal path weight ∷ []) (Err why))
-weightless None P path weight line why none is tells = tt
-weightless (Some files) P path weight line why none is tells =
+    → ForFiles agrees (λ files. Prepares (P files) (weight_refusal path weight ∷ []) (Err why))
+weightless agrees P path weight line why none is tells files agree =
     subst (λ own. Prepares (P files) (weight_refusal path weight ∷ []) (Err own)) (sym is) (by_line line tells)
   where
     by_line : (line : Result (Vec ℕ Global) AllocError) → IfOk line (λ line. line.items ≡ no_weight_line path)

@@ -1,7 +1,7 @@
 -- What is read for a score, and the first refusal.
 use Rattle.std.proofs.Common.{◌≡◌, ◌∙◌, ℕ, Option, Some, None, List, [], ◌∷◌, Ok, Err, refl, sym, ap, subst, length, ◌≤◌}
-use Rattle.std.specs.Prelude.{IfSome}
 use Rattle.std.specs.Option.{option_map}
+use Rattle.unit_inputs.specs.host_io.Agreeing.{ForFiles}
 use Rattle.unit_inputs.specs.host_io.Files.{Files}
 use Rattle.unit_inputs.specs.command_answers.CommandErrors.{IsAnswer, Prepares, first_refusal}
 use Rattle.unit_inputs.specs.declared.command_answers.error.CommandError.{CommandError}
@@ -24,11 +24,11 @@ use Rattle.score_command.specs.Prepared.{CanBeWeighed, IsPrepared}
 use Rattle.score_command.specs.Refusals.{read_refusals, refusals_behind}
 
 -- an input is refused
-pub stops_at_inputs : (P : UnitInputs → Type 0) (told : Option Files) (unit path : List ℕ) (stop : CommandError)
-    → IfSome told (λ files. Prepares P (input_refusals files unit) (Err stop))
-    → IfSome told (λ files. Prepares (IsPrepared files unit path) (read_refusals files unit path) (Err stop))
-stops_at_inputs P told unit path stop said =
-    steps.stops_at_inputs (λ files. P) (λ files. IsPrepared files unit path) told unit
+pub stops_at_inputs : (P : UnitInputs → Type 0) (agrees : Files → Type 0) (unit path : List ℕ) (stop : CommandError)
+    → ForFiles agrees (λ files. Prepares P (input_refusals files unit) (Err stop))
+    → ForFiles agrees (λ files. Prepares (IsPrepared files unit path) (read_refusals files unit path) (Err stop))
+stops_at_inputs P agrees unit path stop said =
+    steps.stops_at_inputs (λ files. P) (λ files. IsPrepared files unit path) agrees unit
     (λ files. refusals_by (refusals_behind files unit path) (inputs_of files unit)) stop said
 
 -- behind inputs that are read
@@ -41,28 +41,19 @@ module _ (files : Files) (unit path : List ℕ) (inputs : UnitInputs) (read : Ar
   behind_policy policy is = behind_inputs ∙ passes (policy_in files path) policy (refusals_of unit (inputs_view inputs)) is
 
 -- the policy is refused
-pub stops_at_policy : (told now : Option Files) (unit path : List ℕ) (inputs : UnitInputs) (stop : CommandError) → now ≡ told
-    → IfSome told (λ files. AreRead files unit inputs)
-    → IfSome now (λ files. IsAnswer {T = List PolicyTest} (λ policy. policy) (Err stop) (policy_in files path))
-    → IfSome told (λ files. Prepares (IsPrepared files unit path) (read_refusals files unit path) (Err stop))
-stops_at_policy None now unit path inputs stop same read said = tt
-stops_at_policy (Some files) now unit path inputs stop same read said =
-    let refused : IsAnswer {T = List PolicyTest} (λ policy. policy) (Err stop) (policy_in files path) =
-    subst (λ own. IfSome own (λ files. IsAnswer {T = List PolicyTest} (λ policy. policy) (Err stop) (policy_in files path))) same said in
+pub stops_at_policy : (between agrees : Files → Type 0) (unit path : List ℕ) (inputs : UnitInputs) (stop : CommandError) → ForFiles agrees between
+    → ForFiles between (λ files. AreRead files unit inputs)
+    → ForFiles agrees (λ files. IsAnswer {T = List PolicyTest} (λ policy. policy) (Err stop) (policy_in files path))
+    → ForFiles agrees (λ files. Prepares (IsPrepared files unit path) (read_refusals files unit path) (Err stop))
+stops_at_policy between agrees unit path inputs stop stays read said files agree =
     stops_as (IsPrepared files unit path) stop (refusals_behind files unit path (inputs_view inputs)) (read_refusals files unit path)
-    (behind_inputs files unit path inputs read)
+    (behind_inputs files unit path inputs (read files (stays files agree)))
     (stops (λ (policy : List PolicyTest). policy) (IsPrepared files unit path) (policy_in files path) stop
-    (refusals_of unit (inputs_view inputs)) refused)
+    (refusals_of unit (inputs_view inputs)) (said files agree))
 
 -- the policy that was read
-abbrev pub IsPolicyOf : Option Files → List ℕ → List PolicyTest → Type 0
-IsPolicyOf told path policy = IfSome told (λ files. policy_in files path ≡ Ok policy)
-
-pub policy_is : (told now : Option Files) (path : List ℕ) (policy : List PolicyTest) → now ≡ told
-    → IfSome now (λ files. IsAnswer (λ (policy : List PolicyTest). policy) (Ok policy) (policy_in files path)) → IsPolicyOf told path policy
-policy_is None now path policy same said = tt
-policy_is (Some files) now path policy same said =
-    subst (λ own. IfSome own (λ files. IsAnswer (λ (policy : List PolicyTest). policy) (Ok policy) (policy_in files path))) same said
+abbrev pub IsPolicyOf : (Files → Type 0) → List ℕ → List PolicyTest → Type 0
+IsPolicyOf agrees path policy = ForFiles agrees (λ files. policy_in files path ≡ Ok policy)
 
 -- what stops rests on no value
 as_prepared : {T U : Type 0} (Q : U → Type 0) (refusals : List (Option (List ℕ))) (P : T → Type 0) (why : CommandError)
@@ -72,28 +63,26 @@ as_prepared Q refusals P stop.ReadFault said = tt
 as_prepared Q refusals P stop.Memory said = tt
 
 -- a setting is refused
-pub stops_at_settings : (P : SettledUnit → Type 0) (told : Option Files) (unit path : List ℕ) (inputs : UnitInputs)
+pub stops_at_settings : (P : SettledUnit → Type 0) (agrees : Files → Type 0) (unit path : List ℕ) (inputs : UnitInputs)
     (policy : List PolicyTest) (why : CommandError)
-    → IfSome told (λ files. AreRead files unit inputs) → IsPolicyOf told path policy
+    → ForFiles agrees (λ files. AreRead files unit inputs) → IsPolicyOf agrees path policy
     → Prepares P (refusals_of unit (inputs_view inputs)) (Err why)
-    → IfSome told (λ files. Prepares (IsPrepared files unit path) (read_refusals files unit path) (Err why))
-stops_at_settings P None unit path inputs policy why read is said = tt
-stops_at_settings P (Some files) unit path inputs policy why read is said =
+    → ForFiles agrees (λ files. Prepares (IsPrepared files unit path) (read_refusals files unit path) (Err why))
+stops_at_settings P agrees unit path inputs policy why read is said files agree =
     stops_as (IsPrepared files unit path) why (refusals_of unit (inputs_view inputs)) (read_refusals files unit path)
-    (behind_policy files unit path inputs read policy is)
+    (behind_policy files unit path inputs (read files agree) policy (is files agree))
     (as_prepared (IsPrepared files unit path) (refusals_of unit (inputs_view inputs)) P why said)
 
 -- nothing is refused
-pub is_prepared : (told : Option Files) (unit path : List ℕ) (inputs : UnitInputs) (policy : List PolicyTest) (one : SettledUnit)
+pub is_prepared : (agrees : Files → Type 0) (unit path : List ℕ) (inputs : UnitInputs) (policy : List PolicyTest) (one : SettledUnit)
     → one.inputs ≡ inputs
     → first_refusal (refusals_of unit (inputs_view inputs)) ≡ None
-    → IfSome told (λ files. AreRead files unit inputs) → IsPolicyOf told path policy
-    → IfSome told (λ files. Prepares (IsPrepared files unit path) (read_refusals files unit path)
+    → ForFiles agrees (λ files. AreRead files unit inputs) → IsPolicyOf agrees path policy
+    → ForFiles agrees (λ files. Prepares (IsPrepared files unit path) (read_refusals files unit path)
     (Ok (record { unit = one; policy = policy })))
-is_prepared None unit path inputs policy one same none read is = tt
-is_prepared (Some files) unit path inputs policy one same none read is = (
-  behind_policy files unit path inputs read policy is ∙ none,
-  record { inputs = read.1 ∙ ap (λ own. Some (inputs_view own)) (sym same); policy = is },
+is_prepared agrees unit path inputs policy one same none read is files agree = (
+  behind_policy files unit path inputs (read files agree) policy (is files agree) ∙ none,
+  record { inputs = (read files agree).1 ∙ ap (λ own. Some (inputs_view own)) (sym same); policy = (is files agree) },
 )
 
 -- what is not refused is not there

@@ -1,7 +1,7 @@
 -- The units that were taken, name by name and folder by folder.
 use Rattle.std.proofs.Common.{◌≡◌, ℕ, ◌+◌, ◌<◌, ◌≤◌, Bool, true, false, cond, List, [], ◌∷◌, length, drop, get_or, Option, Some, None, Ok}
 use Rattle.std.proofs.Common.{map, Vec, String, Global, Bor, refl, sym, ap, ◌∙◌, subst, arith}
-use Rattle.std.specs.Prelude.{◌||◌, nat_lt, IfSome, flat_map, string_bytes}
+use Rattle.std.specs.Prelude.{◌||◌, nat_lt, flat_map, string_bytes}
 use Rattle.std.specs.Option.{option_or}
 use Rattle.std.specs.Str.{bytes_eq}
 use Rattle.std.specs.String.{string_cmp}
@@ -13,6 +13,7 @@ use Rattle.std.proofs.lemmas.List.Sorted.{list_any-IsPermutation}
 use Rattle.std.proofs.lemmas.Bool.Decides.{nat_tests}
 use Rattle.std.proofs.lemmas.Map.Text.{btree_map_updates_text}
 use Rattle.std.proofs.lemmas.Slice.Eq.{bytes_eq-Decides}
+use Rattle.unit_inputs.specs.host_io.Agreeing.{ForFiles}
 use Rattle.unit_inputs.specs.host_io.Files.{Files, names_in}
 use Rattle.unit_inputs.specs.host_io.Reading.{Lists}
 use Rattle.unit_inputs.specs.unit_names.Cutting.{name_of}
@@ -20,7 +21,6 @@ use Rattle.unit_inputs.specs.unit_names.Names.{Name}
 use Rattle.report_text.specs.dropin_merge.Resolving.{is_overfull}
 use Rattle.report_text.proofs.OfDropinMerge.Left.{drop_read}
 use Rattle.report_text.proofs.OfDropinMerge.Listed.{both_ways}
-use Rattle.report_text.proofs.OfDropinMerge.Reading.{told_from}
 use Rattle.score_command.specs.fleet_command.fleet_names.Steps.{ListsFolder, unit_among, unit_called}
 
 -- ---- a name
@@ -80,12 +80,11 @@ few_files : (n : ℕ) → n ≤ 4096 → nat_lt 4096 n ≡ false
 few_files n h = grind (arith, nat_tests)
 
 -- what a listing answers
-pub lists_folder : (told : Option Files) (folder : List ℕ) (names : Vec (String Global) Global) → Lists told folder (Ok names)
-    → IfSome told (λ files. ListsFolder (names_in files folder) (Ok names))
-lists_folder None folder names h = tt
-lists_folder (Some files) folder names h = (
-  λ q. sym (list_any-IsPermutation (bytes_eq q) (names_in files folder) (map string_bytes names.items) h.names_of_the_folder),
-  few_files (length (names_in files folder)) h.not_too_many,
+pub lists_folder : (agrees : Files → Type 0) (folder : List ℕ) (names : Vec (String Global) Global) → ForFiles agrees (λ files. Lists files folder (Ok names))
+    → ForFiles agrees (λ files. ListsFolder (names_in files folder) (Ok names))
+lists_folder agrees folder names listed files agree = (
+  λ q. sym (list_any-IsPermutation (bytes_eq q) (names_in files folder) (map string_bytes names.items) (listed files agree).names_of_the_folder),
+  few_files (length (names_in files folder)) (listed files agree).not_too_many,
 )
 
 -- the units of the folders that are listed, with those of the folders that are left
@@ -115,15 +114,15 @@ pub texts_left : (folders : List (Bor (List ℕ))) (i : ℕ) (d : Bor (List ℕ)
     → map (λ folder. folder.now) (drop i folders) ≡ (get_or folders i d).now ∷ map (λ folder. folder.now) (drop (i + 1) folders)
 texts_left folders i d h = ap (map (λ (folder : Bor (List ℕ)). folder.now)) (drop_more folders i d h)
 
-pub collected_turn : (files : Files) (told : Option Files) (m n : BTreeMap (String Global) Name) (folders : List (Bor (List ℕ))) (i : ℕ)
+pub collected_turn : (files : Files) (agrees : Files → Type 0) (m n : BTreeMap (String Global) Name) (folders : List (Bor (List ℕ))) (i : ℕ)
     (d : Bor (List ℕ)) (names : Vec (String Global) Global) (slice : List (String Global)) (all : List (List ℕ))
-    → told ≡ Some files → i < length folders → slice ≡ names.items
-    → IfSome told (λ files. ListsFolder (names_in files (get_or folders i d).now) (Ok names))
+    → agrees files → i < length folders → slice ≡ names.items
+    → ForFiles agrees (λ files. ListsFolder (names_in files (get_or folders i d).now) (Ok names))
     → ((q : List ℕ) → get_by_text n q ≡ option_or (unit_among (map string_bytes slice) q) (get_by_text m q))
     → Collected files m (map (λ folder. folder.now) (drop i folders)) all
     → Collected files n (map (λ folder. folder.now) (drop (i + 1) folders)) all
-collected_turn files told m n folders i d names slice all known h sliced listed step before =
+collected_turn files agrees m n folders i d names slice all known h sliced listed step before =
     collected_more files m n (get_or folders i d).now (map (λ folder. folder.now) (drop (i + 1) folders)) all names
     (subst (λ left. Collected files m left all) (texts_left folders i d h) before)
-    (told_from (λ files. ListsFolder (names_in files (get_or folders i d).now) (Ok names)) told listed files known)
+    (listed files known)
     (λ q. step q ∙ ap (λ own. option_or (unit_among (map string_bytes own) q) (get_by_text m q)) sliced)

@@ -44,9 +44,9 @@ pub fn prepare<S: Shelf>(
     threshold: u32,
     tests: &[CustomTest],
 ) -> Result<Scored, CommandError>
-    ensures prepares { IsAdmitted (laws_over (S.told shelf.old) (score_laws unit.now policy.now threshold (⟦<CustomTest as Stored>⟧.stored tests.now))) status_of scored_text result }
-    ensures asks_in_order { AsksInOrder S.asks (S.told shelf.old) (λ files. asks_with_file files unit.now policy.now) shelf.old shelf.new (course result) }
-    ensures reads_for_the_unit { ReadsFor S.told S.faults unit.now shelf.old shelf.new result }
+    ensures prepares { IsAdmitted (laws_over (S.agrees shelf.new) (score_laws unit.now policy.now threshold (⟦<CustomTest as Stored>⟧.stored tests.now))) status_of scored_text result }
+    ensures asks_in_order { AsksInOrder S.asks (S.agrees shelf.new) (λ files. asks_with_file files unit.now policy.now) shelf.old shelf.new (course result) }
+    ensures reads_for_the_unit { ReadsFor S.agrees S.faults unit.now shelf.old shelf.new result }
 {
     let prepared = read_all(alloc, shelf, unit, policy)?;
     let known = facts_of(alloc, &prepared)?;

@@ -1,5 +1,6 @@
 //! The policy, with the lines of its refusals.
-ghost use Rattle.std.specs.Prelude.{◌≡◌, ◌∷◌, [], IfOk, IfSome, IsErrOf};
+ghost use Rattle.std.specs.Prelude.{◌≡◌, ◌∷◌, [], IfOk, IsErrOf};
+ghost use Rattle.unit_inputs.specs.host_io.Agreeing.{ForFiles};
 ghost use Rattle.unit_inputs.specs.host_io.Calls.{AsksExactly};
 ghost use Rattle.unit_inputs.specs.command_answers.Asking.{course, input_file};
 ghost use Rattle.unit_inputs.specs.command_answers.CommandErrors.{HasReadCause, IsAnswer};
@@ -59,9 +60,9 @@ pub fn read_policy<S: Shelf>(
     shelf: &mut S,
     path: &str,
 ) -> Result<Policy, CommandError>
-    ensures reads_the_policy { IfSome (S.told shelf.old) (λ files. IsAnswer (λ policy. policy) result (policy_in files path.now)) }
+    ensures reads_the_policy { ForFiles (S.agrees shelf.new) (λ files. IsAnswer (λ policy. policy) result (policy_in files path.now)) }
     ensures asks_for_it { AsksExactly S.asks shelf.old shelf.new (input_file path.now ∷ []) (course result) }
-    ensures map_stays { S.told shelf.new ≡ S.told shelf.old }
+    ensures answers_stay { ForFiles (S.agrees shelf.new) (S.agrees shelf.old) }
     ensures fault_rose { HasReadCause (S.faults shelf.old) (S.faults shelf.new) result }
 {
     let bytes = read_input(alloc, shelf, path)?;

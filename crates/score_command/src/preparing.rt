@@ -1,5 +1,6 @@
 //! What `score` reads, and what it takes from that.
-ghost use Rattle.std.specs.Prelude.{IfOk, IfSome};
+ghost use Rattle.std.specs.Prelude.{IfOk};
+ghost use Rattle.unit_inputs.specs.host_io.Agreeing.{ForFiles};
 ghost use Rattle.unit_inputs.specs.command_answers.Asking.{course};
 ghost use Rattle.unit_inputs.specs.command_answers.CommandErrors.{Prepares};
 ghost use Rattle.unit_inputs.specs.Asking.{AsksInOrder, asks_with_file};
@@ -31,9 +32,9 @@ pub fn read_all<S: Shelf>(
     policy: &str,
 ) -> Result<Prepared, CommandError>
     ensures can_be_weighed { IfOk result CanBeWeighed }
-    ensures prepares { IfSome (S.told shelf.old) (λ files. Prepares (IsPrepared files unit.now policy.now) (read_refusals files unit.now policy.now) result) }
-    ensures asks_in_order { AsksInOrder S.asks (S.told shelf.old) (λ files. asks_with_file files unit.now policy.now) shelf.old shelf.new (course result) }
-    ensures reads_for_the_unit { ReadsFor S.told S.faults unit.now shelf.old shelf.new result }
+    ensures prepares { ForFiles (S.agrees shelf.new) (λ files. Prepares (IsPrepared files unit.now policy.now) (read_refusals files unit.now policy.now) result) }
+    ensures asks_in_order { AsksInOrder S.asks (S.agrees shelf.new) (λ files. asks_with_file files unit.now policy.now) shelf.old shelf.new (course result) }
+    ensures reads_for_the_unit { ReadsFor S.agrees S.faults unit.now shelf.old shelf.new result }
 {
     let inputs = read_inputs(alloc, shelf, unit)?;
     let weights = read_policy(alloc, shelf, policy)?;

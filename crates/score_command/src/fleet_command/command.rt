@@ -1,5 +1,6 @@
 //! The command `fleet` and the path of a policy.
 ghost use Rattle.std.specs.Prelude.{◌≡◌};
+ghost use Rattle.unit_inputs.specs.host_io.Agreeing.{ForFiles};
 ghost use Rattle.unit_inputs.specs.command_answers.Asking.{course};
 ghost use Rattle.unit_inputs.specs.command_answers.Laws.{IsAdmitted, laws_over};
 ghost use Rattle.unit_inputs.specs.command_answers.CommandErrors.{HasReadCause};
@@ -26,9 +27,9 @@ pub fn prepare<S: Shelf>(
     path: &str,
     tests: &[CustomTest],
 ) -> Result<Fleet, CommandError>
-    ensures prepares { IsAdmitted (laws_over (S.told shelf.old) (fleet_laws path.now (⟦<CustomTest as Stored>⟧.stored tests.now))) status_of text_of result }
-    ensures asks_in_order { AsksInOrder S.asks (S.told shelf.old) (λ files. fleet_asks files path.now (⟦<CustomTest as Stored>⟧.stored tests.now)) shelf.old shelf.new (course result) }
-    ensures map_stays { S.told shelf.new ≡ S.told shelf.old }
+    ensures prepares { IsAdmitted (laws_over (S.agrees shelf.new) (fleet_laws path.now (⟦<CustomTest as Stored>⟧.stored tests.now))) status_of text_of result }
+    ensures asks_in_order { AsksInOrder S.asks (S.agrees shelf.new) (λ files. fleet_asks files path.now (⟦<CustomTest as Stored>⟧.stored tests.now)) shelf.old shelf.new (course result) }
+    ensures answers_stay { ForFiles (S.agrees shelf.new) (S.agrees shelf.old) }
     ensures fault_rose { HasReadCause (S.faults shelf.old) (S.faults shelf.new) result }
 {
     let inputs = read_all(alloc, shelf, path)?;

@@ -1,5 +1,6 @@
 //! What `fleet` reads before the first unit.
-ghost use Rattle.std.specs.Prelude.{◌≡◌, IfSome};
+ghost use Rattle.std.specs.Prelude.{◌≡◌};
+ghost use Rattle.unit_inputs.specs.host_io.Agreeing.{ForFiles};
 ghost use Rattle.unit_inputs.specs.command_answers.Asking.{course};
 ghost use Rattle.unit_inputs.specs.command_answers.CommandErrors.{HasReadCause, Prepares};
 ghost use Rattle.unit_inputs.specs.Asking.{AsksInOrder};
@@ -34,9 +35,9 @@ pub fn read_all<S: Shelf>(
     shelf: &mut S,
     path: &str,
 ) -> Result<FleetInputs, CommandError>
-    ensures prepares { IfSome (S.told shelf.old) (λ files. Prepares (λ inputs. AreInputs files path.now (inputs_view inputs)) (read_refusals files path.now) result) }
-    ensures asks_in_order { AsksInOrder S.asks (S.told shelf.old) (λ files. read_asks files path.now) shelf.old shelf.new (course result) }
-    ensures map_stays { S.told shelf.new ≡ S.told shelf.old }
+    ensures prepares { ForFiles (S.agrees shelf.new) (λ files. Prepares (λ inputs. AreInputs files path.now (inputs_view inputs)) (read_refusals files path.now) result) }
+    ensures asks_in_order { AsksInOrder S.asks (S.agrees shelf.new) (λ files. read_asks files path.now) shelf.old shelf.new (course result) }
+    ensures answers_stay { ForFiles (S.agrees shelf.new) (S.agrees shelf.old) }
     ensures fault_rose { HasReadCause (S.faults shelf.old) (S.faults shelf.new) result }
 {
     let names = read_names(alloc, shelf)?;

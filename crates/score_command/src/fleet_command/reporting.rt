@@ -1,5 +1,6 @@
 //! The rows of all units.
-ghost use Rattle.std.specs.Prelude.{◌≡◌, ◌∷◌, [], IfSome};
+ghost use Rattle.std.specs.Prelude.{◌≡◌, ◌∷◌, []};
+ghost use Rattle.unit_inputs.specs.host_io.Agreeing.{ForFiles};
 ghost use Rattle.report_text.specs.exposure_score.policy_weights.Weights.{weight_of};
 ghost use Rattle.unit_inputs.specs.command_answers.Asking.{course};
 ghost use Rattle.unit_inputs.specs.command_answers.CommandErrors.{HasReadCause, Prepares};
@@ -24,10 +25,10 @@ pub fn report<S: Shelf>(
     inputs: &FleetInputs,
     tests: &[CustomTest],
 ) -> Result<Vec<FleetRow>, CommandError>
-    ensures reports { IfSome (S.told shelf.old) (λ files. Prepares (λ rows. AreFleet files (inputs_view inputs.now) (⟦<CustomTest as Stored>⟧.stored tests.now) rows.items)
+    ensures reports { ForFiles (S.agrees shelf.new) (λ files. Prepares (λ rows. AreFleet files (inputs_view inputs.now) (⟦<CustomTest as Stored>⟧.stored tests.now) rows.items)
         (weight_refusal path.now (weight_of (inputs_view inputs.now).calls (⟦<CustomTest as Stored>⟧.stored tests.now) (inputs_view inputs.now).policy) ∷ []) result) }
-    ensures asks_in_order { AsksInOrder S.asks (S.told shelf.old) (λ files. unless_weightless (weight_of (inputs_view inputs.now).calls (⟦<CustomTest as Stored>⟧.stored tests.now) (inputs_view inputs.now).policy) (rows_asks files (inputs_view inputs.now).names)) shelf.old shelf.new (course result) }
-    ensures map_stays { S.told shelf.new ≡ S.told shelf.old }
+    ensures asks_in_order { AsksInOrder S.asks (S.agrees shelf.new) (λ files. unless_weightless (weight_of (inputs_view inputs.now).calls (⟦<CustomTest as Stored>⟧.stored tests.now) (inputs_view inputs.now).policy) (rows_asks files (inputs_view inputs.now).names)) shelf.old shelf.new (course result) }
+    ensures answers_stay { ForFiles (S.agrees shelf.new) (S.agrees shelf.old) }
     ensures fault_rose { HasReadCause (S.faults shelf.old) (S.faults shelf.new) result }
 {
     let rows = fleet(

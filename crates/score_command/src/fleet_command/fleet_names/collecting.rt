@@ -1,9 +1,10 @@
 //! The units among the files of some folders.
-ghost use Rattle.std.specs.Prelude.{◌≡◌, List, ℕ, IfErr, IfOk, IfSome, OnOk, map};
+ghost use Rattle.std.specs.Prelude.{◌≡◌, List, ℕ, IfErr, IfOk, OnOk, map};
 ghost use Rattle.std.specs.BTreeMap.{get_by_text};
 ghost use Rattle.std.specs.Map.{values_of};
 ghost use Rattle.std.specs.Option.{option_or};
 ghost use Rattle.std.specs.String.{string_bytes};
+ghost use Rattle.unit_inputs.specs.host_io.Agreeing.{ForFiles};
 ghost use Rattle.unit_inputs.specs.host_io.Calls.{AsksExactly};
 ghost use Rattle.report_text.specs.dropin_merge.Asking.{folder_asks};
 ghost use Rattle.report_text.specs.dropin_merge.Places.{locations};
@@ -61,9 +62,9 @@ fn collect_units<S: Shelf>(
     shelf: &mut S,
     folders: &[&str],
 ) -> Result<Units, NamesError>
-    ensures collects_the_units { IfSome (S.told shelf.old) (λ files. CollectsUnits files (map (λ folder. folder.now) folders.now) result) }
-    ensures asks_in_order { IfSome (S.told shelf.old) (λ files. AsksExactly S.asks shelf.old shelf.new (folder_asks files (map (λ folder. folder.now) folders.now)) (course result)) }
-    ensures map_stays { S.told shelf.new ≡ S.told shelf.old }
+    ensures collects_the_units { ForFiles (S.agrees shelf.new) (λ files. CollectsUnits files (map (λ folder. folder.now) folders.now) result) }
+    ensures asks_in_order { ForFiles (S.agrees shelf.new) (λ files. AsksExactly S.asks shelf.old shelf.new (folder_asks files (map (λ folder. folder.now) folders.now)) (course result)) }
+    ensures answers_stay { ForFiles (S.agrees shelf.new) (S.agrees shelf.old) }
     ensures fault_rose { HasCause (S.faults shelf.old) (S.faults shelf.new) result }
 {
     let mut units = BTreeMap::new(alloc);
@@ -76,9 +77,9 @@ fn collect_units<S: Shelf>(
 
 /// The units among the files of the folders of units.
 pub fn collect_all<S: Shelf>(alloc: Global, shelf: &mut S) -> Result<Units, NamesError>
-    ensures collects_the_units { IfSome (S.told shelf.old) (λ files. CollectsUnits files locations result) }
-    ensures asks_in_order { IfSome (S.told shelf.old) (λ files. AsksExactly S.asks shelf.old shelf.new (names_asks files) (course result)) }
-    ensures map_stays { S.told shelf.new ≡ S.told shelf.old }
+    ensures collects_the_units { ForFiles (S.agrees shelf.new) (λ files. CollectsUnits files locations result) }
+    ensures asks_in_order { ForFiles (S.agrees shelf.new) (λ files. AsksExactly S.asks shelf.old shelf.new (names_asks files) (course result)) }
+    ensures answers_stay { ForFiles (S.agrees shelf.new) (S.agrees shelf.old) }
     ensures fault_rose { HasCause (S.faults shelf.old) (S.faults shelf.new) result }
 {
     collect_units(alloc, shelf, &FOLDERS)

@@ -1,5 +1,6 @@
 //! The names of the files in a folder of units.
-ghost use Rattle.std.specs.Prelude.{◌≡◌, ◌∷◌, [], IfSome};
+ghost use Rattle.std.specs.Prelude.{◌≡◌, ◌∷◌, []};
+ghost use Rattle.unit_inputs.specs.host_io.Agreeing.{ForFiles};
 ghost use Rattle.unit_inputs.specs.host_io.Calls.{NamesIn, AsksExactly};
 ghost use Rattle.unit_inputs.specs.host_io.Files.{names_in};
 ghost use Rattle.score_command.specs.fleet_command.fleet_names.Answers.{HasCause};
@@ -16,9 +17,9 @@ pub fn list_folder<S: Shelf>(
     shelf: &mut S,
     folder: &str,
 ) -> Result<Vec<String>, NamesError>
-    ensures lists_the_folder { IfSome (S.told shelf.old) (λ files. ListsFolder (names_in files folder.now) result) }
+    ensures lists_the_folder { ForFiles (S.agrees shelf.new) (λ files. ListsFolder (names_in files folder.now) result) }
     ensures asks_for_it { AsksExactly S.asks shelf.old shelf.new (NamesIn folder.now ∷ []) (course result) }
-    ensures map_stays { S.told shelf.new ≡ S.told shelf.old }
+    ensures answers_stay { ForFiles (S.agrees shelf.new) (S.agrees shelf.old) }
     ensures fault_rose { HasCause (S.faults shelf.old) (S.faults shelf.new) result }
 {
     match shelf.list(alloc, folder) {

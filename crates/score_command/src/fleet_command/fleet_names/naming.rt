@@ -1,5 +1,6 @@
 //! The units of a host.
-ghost use Rattle.std.specs.Prelude.{◌≡◌, IfSome};
+ghost use Rattle.std.specs.Prelude.{◌≡◌};
+ghost use Rattle.unit_inputs.specs.host_io.Agreeing.{ForFiles};
 ghost use Rattle.unit_inputs.specs.host_io.Calls.{AsksExactly};
 ghost use Rattle.score_command.specs.fleet_command.fleet_names.Answers.{AreNamed, HasCause};
 ghost use Rattle.score_command.specs.fleet_command.fleet_names.Asking.{course, names_asks};
@@ -21,9 +22,9 @@ const MOST_UNITS: usize = 1024;
 /// is listed. So if the shelf reveals its files, exactly the folders up to the first with too many files are listed, in this
 /// order.
 pub fn fleet_names<S: Shelf>(alloc: Global, shelf: &mut S) -> Result<Vec<UnitName>, NamesError>
-    ensures names_the_units { IfSome (S.told shelf.old) (λ files. AreNamed files result) }
-    ensures asks_in_order { IfSome (S.told shelf.old) (λ files. AsksExactly S.asks shelf.old shelf.new (names_asks files) (course result)) }
-    ensures map_stays { S.told shelf.new ≡ S.told shelf.old }
+    ensures names_the_units { ForFiles (S.agrees shelf.new) (λ files. AreNamed files result) }
+    ensures asks_in_order { ForFiles (S.agrees shelf.new) (λ files. AsksExactly S.asks shelf.old shelf.new (names_asks files) (course result)) }
+    ensures answers_stay { ForFiles (S.agrees shelf.new) (S.agrees shelf.old) }
     ensures fault_rose { HasCause (S.faults shelf.old) (S.faults shelf.new) result }
 {
     let units = collect_all(alloc, shelf)?;

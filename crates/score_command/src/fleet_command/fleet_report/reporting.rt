@@ -1,7 +1,8 @@
 //! The report of all units.
-ghost use Rattle.std.specs.Prelude.{◌≡◌, ◌↔◌, ◌<◌, IfOk, IfSome, IsErrOf, IsPermutation, map};
+ghost use Rattle.std.specs.Prelude.{◌≡◌, ◌↔◌, ◌<◌, IfOk, IsErrOf, IsPermutation, map};
 ghost use Rattle.std.specs.List.{All};
 ghost use Rattle.report_text.specs.exposure_score.policy_weights.Weights.{weight_of};
+ghost use Rattle.unit_inputs.specs.host_io.Agreeing.{ForFiles};
 ghost use Rattle.unit_inputs.specs.host_io.Calls.{AsksExactly};
 ghost use Rattle.score_command.specs.fleet_command.fleet_report.Answers.{HasCause};
 ghost use Rattle.score_command.specs.fleet_command.fleet_report.Asking.{course, rows_asks, unless_weightless};
@@ -29,10 +30,10 @@ fn rows_of<S: Shelf>(
 ) -> Result<Vec<FleetRow>, FleetError>
     requires weighs { 0 < weight_of calls.now (⟦<CustomTest as Stored>⟧.stored tests.now) policy.now }
     ensures a_row_a_name { IfOk result (λ rows. map (λ row. row.name) rows.items ≡ names.now) }
-    ensures by_their_files { IfSome (S.told shelf.old) (λ files. IfOk result (λ rows. All (IsRowOf files calls.now site.now policy.now (⟦<CustomTest as Stored>⟧.stored tests.now)) rows.items)) }
+    ensures by_their_files { ForFiles (S.agrees shelf.new) (λ files. IfOk result (λ rows. All (IsRowOf files calls.now site.now policy.now (⟦<CustomTest as Stored>⟧.stored tests.now)) rows.items)) }
     ensures tells_no_fault { IfOk result (λ rows. All (λ row. TellsNoFault row.outcome) rows.items) }
-    ensures asks_in_order { IfSome (S.told shelf.old) (λ files. AsksExactly S.asks shelf.old shelf.new (rows_asks files names.now) (course result)) }
-    ensures map_stays { S.told shelf.new ≡ S.told shelf.old }
+    ensures asks_in_order { ForFiles (S.agrees shelf.new) (λ files. AsksExactly S.asks shelf.old shelf.new (rows_asks files names.now) (course result)) }
+    ensures answers_stay { ForFiles (S.agrees shelf.new) (S.agrees shelf.old) }
     ensures fault_rose { HasCause (S.faults shelf.old) (S.faults shelf.new) result }
     ensures never_weightless { IsErrOf result FleetError.NoWeight → ⊥ }
 {
@@ -71,13 +72,13 @@ pub fn fleet<S: Shelf>(
     tests: &[CustomTest],
 ) -> Result<Vec<FleetRow>, FleetError>
     ensures a_row_a_name { IfOk result (λ rows. IsPermutation names.now (map (λ row. row.name) rows.items)) }
-    ensures by_their_files { IfSome (S.told shelf.old) (λ files. IfOk result (λ rows. All (IsRowOf files calls.now site.now policy.now (⟦<CustomTest as Stored>⟧.stored tests.now)) rows.items)) }
+    ensures by_their_files { ForFiles (S.agrees shelf.new) (λ files. IfOk result (λ rows. All (IsRowOf files calls.now site.now policy.now (⟦<CustomTest as Stored>⟧.stored tests.now)) rows.items)) }
     ensures tells_no_fault { IfOk result (λ rows. All (λ row. TellsNoFault row.outcome) rows.items) }
     ensures least_protected_first { IfOk result (λ rows. AreInOrder rows.items) }
     ensures no_weight { IsErrOf result FleetError.NoWeight ↔ (weight_of calls.now (⟦<CustomTest as Stored>⟧.stored tests.now) policy.now ≡ 0) }
-    ensures asks_in_order { IfSome (S.told shelf.old) (λ files. AsksExactly S.asks shelf.old shelf.new (unless_weightless (weight_of calls.now (⟦<CustomTest as Stored>⟧.stored tests.now) policy.now) (rows_asks files names.now)) (course result)) }
+    ensures asks_in_order { ForFiles (S.agrees shelf.new) (λ files. AsksExactly S.asks shelf.old shelf.new (unless_weightless (weight_of calls.now (⟦<CustomTest as Stored>⟧.stored tests.now) policy.now) (rows_asks files names.now)) (course result)) }
     ensures unread_without_weight { IsErrOf result FleetError.NoWeight → shelf.new ≡ shelf.old }
-    ensures map_stays { S.told shelf.new ≡ S.told shelf.old }
+    ensures answers_stay { ForFiles (S.agrees shelf.new) (S.agrees shelf.old) }
     ensures fault_rose { HasCause (S.faults shelf.old) (S.faults shelf.new) result }
 {
     if !weighs(calls, policy, tests) {

@@ -1,10 +1,11 @@
 //! The outcome of a unit, by its own files.
-ghost use Rattle.std.specs.Prelude.{◌≡◌, ◌<◌, IfErr, IfOk, IfSome, IsErrOf, None, Ok};
+ghost use Rattle.std.specs.Prelude.{◌≡◌, ◌<◌, IfErr, IfOk, IsErrOf, None, Ok};
 ghost use Rattle.unit_inputs.specs.exec_settings.AreSettings.{AreSettings};
 ghost use Rattle.unit_inputs.specs.exec_settings.Refusals.{refusal_of};
 ghost use Rattle.report_text.specs.exposure_score.policy_weights.Weights.{weight_of};
 ghost use Rattle.report_text.specs.dropin_merge.Resolving.{resolved_of};
 ghost use Rattle.unit_inputs.specs.unit_names.Names.{text_of};
+ghost use Rattle.unit_inputs.specs.host_io.Agreeing.{ForFiles};
 ghost use Rattle.unit_inputs.specs.host_io.Calls.{AsksExactly};
 ghost use Rattle.score_command.specs.fleet_command.fleet_report.Answers.{HasCause};
 ghost use Rattle.score_command.specs.fleet_command.fleet_report.Asking.{course, row_asks};
@@ -79,10 +80,10 @@ fn outcome_by_files<S: Shelf>(
     tests: &[CustomTest],
 ) -> Result<FleetOutcome, FleetError>
     requires weighs { 0 < weight_of calls.now (⟦<CustomTest as Stored>⟧.stored tests.now) policy.now }
-    ensures comes_of_its_files { IfSome (S.told shelf.old) (λ files. IfOk result (IsOutcome calls.now site.now policy.now (⟦<CustomTest as Stored>⟧.stored tests.now) (resolved_of files (text_of name.now)))) }
+    ensures comes_of_its_files { ForFiles (S.agrees shelf.new) (λ files. IfOk result (IsOutcome calls.now site.now policy.now (⟦<CustomTest as Stored>⟧.stored tests.now) (resolved_of files (text_of name.now)))) }
     ensures tells_no_fault { IfOk result TellsNoFault }
-    ensures asks_in_order { IfSome (S.told shelf.old) (λ files. AsksExactly S.asks shelf.old shelf.new (row_asks files name.now) (course result)) }
-    ensures map_stays { S.told shelf.new ≡ S.told shelf.old }
+    ensures asks_in_order { ForFiles (S.agrees shelf.new) (λ files. AsksExactly S.asks shelf.old shelf.new (row_asks files name.now) (course result)) }
+    ensures answers_stay { ForFiles (S.agrees shelf.new) (S.agrees shelf.old) }
     ensures fault_rose { HasCause (S.faults shelf.old) (S.faults shelf.new) result }
     ensures never_weightless { IsErrOf result FleetError.NoWeight → ⊥ }
 {
@@ -109,10 +110,10 @@ pub fn row_of<S: Shelf>(
 ) -> Result<FleetRow, FleetError>
     requires weighs { 0 < weight_of calls.now (⟦<CustomTest as Stored>⟧.stored tests.now) policy.now }
     ensures same_name { IfOk result (λ row. row.name ≡ name.now) }
-    ensures is_the_row { IfSome (S.told shelf.old) (λ files. IfOk result (IsRowOf files calls.now site.now policy.now (⟦<CustomTest as Stored>⟧.stored tests.now))) }
+    ensures is_the_row { ForFiles (S.agrees shelf.new) (λ files. IfOk result (IsRowOf files calls.now site.now policy.now (⟦<CustomTest as Stored>⟧.stored tests.now))) }
     ensures tells_no_fault { IfOk result (λ row. TellsNoFault row.outcome) }
-    ensures asks_in_order { IfSome (S.told shelf.old) (λ files. AsksExactly S.asks shelf.old shelf.new (row_asks files name.now) (course result)) }
-    ensures map_stays { S.told shelf.new ≡ S.told shelf.old }
+    ensures asks_in_order { ForFiles (S.agrees shelf.new) (λ files. AsksExactly S.asks shelf.old shelf.new (row_asks files name.now) (course result)) }
+    ensures answers_stay { ForFiles (S.agrees shelf.new) (S.agrees shelf.old) }
     ensures fault_rose { HasCause (S.faults shelf.old) (S.faults shelf.new) result }
     ensures never_weightless { IsErrOf result FleetError.NoWeight → ⊥ }
 {

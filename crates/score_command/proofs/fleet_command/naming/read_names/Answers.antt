@@ -9,23 +9,23 @@ use Rattle.score_command.proofs.fleet_command.naming.read_names.Goals as goal
 
 pub returns-in-Ok-clause-asks_in_order : goal.returns-in-Ok-clause-asks_in_order
 returns-in-Ok-clause-asks_in_order g c =
-    named_so g.S.Shelf.asks (g.S.Shelf.told c.args.shelf.now) c.args.shelf.now c.fleet_names.new.shelf c.fleet_names.result
+    named_so g.S.Shelf.asks (g.S.Shelf.agrees c.fleet_names.new.shelf) c.args.shelf.now c.fleet_names.new.shelf c.fleet_names.result
     (Ok c.in-Ok.names) (search rules) c.fleet_names.ensures.asks_in_order
 
 pub returns-in-Err-TooMany-clause-asks_in_order : goal.returns-in-Err-TooMany-clause-asks_in_order
 returns-in-Err-TooMany-clause-asks_in_order g c =
-    order_quiet g.S.Shelf.asks (g.S.Shelf.told c.args.shelf.now) names_asks c.args.shelf.now c.fleet_names.new.shelf {T = Vec Name Global}
+    order_quiet g.S.Shelf.asks (g.S.Shelf.agrees c.fleet_names.new.shelf) names_asks c.args.shelf.now c.fleet_names.new.shelf {T = Vec Name Global}
     (Err c.refuse.result)
     (told_line c.refused_line.result c.refuse.result c.refuse.ensures.tells_the_line)
-    (named_so g.S.Shelf.asks (g.S.Shelf.told c.args.shelf.now) c.args.shelf.now c.fleet_names.new.shelf c.fleet_names.result
+    (named_so g.S.Shelf.asks (g.S.Shelf.agrees c.fleet_names.new.shelf) c.args.shelf.now c.fleet_names.new.shelf c.fleet_names.result
     (Err naming.TooMany) (search rules) c.fleet_names.ensures.asks_in_order)
 
 pub returns-in-Err-ReadFault-clause-asks_in_order : goal.returns-in-Err-ReadFault-clause-asks_in_order
 returns-in-Err-ReadFault-clause-asks_in_order g c =
-    named_so g.S.Shelf.asks (g.S.Shelf.told c.args.shelf.now) c.args.shelf.now c.fleet_names.new.shelf c.fleet_names.result
+    named_so g.S.Shelf.asks (g.S.Shelf.agrees c.fleet_names.new.shelf) c.args.shelf.now c.fleet_names.new.shelf c.fleet_names.result
     (Err naming.ReadFault) (search rules) c.fleet_names.ensures.asks_in_order
 
 pub returns-in-Err-Memory-clause-asks_in_order : goal.returns-in-Err-Memory-clause-asks_in_order
 returns-in-Err-Memory-clause-asks_in_order g c =
-    named_so g.S.Shelf.asks (g.S.Shelf.told c.args.shelf.now) c.args.shelf.now c.fleet_names.new.shelf c.fleet_names.result
+    named_so g.S.Shelf.asks (g.S.Shelf.agrees c.fleet_names.new.shelf) c.args.shelf.now c.fleet_names.new.shelf c.fleet_names.result
     (Err naming.Memory) (search rules) c.fleet_names.ensures.asks_in_order

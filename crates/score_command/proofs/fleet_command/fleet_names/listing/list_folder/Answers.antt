@@ -6,7 +6,7 @@ use Rattle.score_command.proofs.Taking.{lists_folder}
 use Rattle.score_command.proofs.fleet_command.fleet_names.listing.list_folder.Goals as goal
 
 pub returns-in-Ok-clause-lists_the_folder : goal.returns-in-Ok-clause-lists_the_folder
-returns-in-Ok-clause-lists_the_folder g c = lists_folder (g.S.Shelf.told c.args.shelf.now) c.args.folder.now c.in-Ok.names c.in-Ok.ensures.answers_by_the_map
+returns-in-Ok-clause-lists_the_folder g c = lists_folder (g.S.Shelf.agrees c.list.new.self) c.args.folder.now c.in-Ok.names c.in-Ok.ensures.answers_by_the_files
 
 pub returns-in-Err-Failed-clause-asks_for_it : goal.returns-in-Err-Failed-clause-asks_for_it
 returns-in-Err-Failed-clause-asks_for_it g c =

@@ -26,7 +26,7 @@ pub returns-clause-by_their_files : goal.returns-clause-by_their_files
 returns-clause-by_their_files g c =
     let stored = stored_by (λ test. test.id) (λ test. test.range) (λ test shown answer. (goal.Fn-dyn g).post (test.check.vtable, test.check.value) (shown, tt) answer) c.args.tests.now in
     rows_ordered (λ files. IsRowOf files c.args.calls.now c.args.site.now c.args.policy.now stored)
-    (g.S.Shelf.told c.args.shelf.now) c.in_ok-rows.rows.items c.ordered_rows.result.items c.ordered_rows.ensures.the_same
+    (g.S.Shelf.agrees c.rows_of.new.shelf) c.in_ok-rows.rows.items c.ordered_rows.result.items c.ordered_rows.ensures.the_same
     c.in_ok-rows.ensures.by_their_files
 
 pub returns-clause-tells_no_fault : goal.returns-clause-tells_no_fault
