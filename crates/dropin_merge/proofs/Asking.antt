@@ -124,7 +124,7 @@ module _ {S : Type 0} (asks : S → ShelfCall → S → Type 0) (between agrees 
       (fragment_asks files (map string_bytes (drop i xs))))
       → (files : Files) → agrees files → Going asks a c (fragment_asks files (map string_bytes xs))
       (fragment_asks files (map string_bytes (drop (i + 1) xs)))
-  fragment_more read made going files (stays files known) =
+  fragment_more read made going files known =
       text_more asks (is_there files) unit_file (fragment_asks files (map string_bytes xs)) a b c xs i x text h is said
       (missing_is text (bytes_at files text)
       (read files known))
@@ -166,7 +166,7 @@ module _ {S : Type 0} (asks : S → ShelfCall → S → Type 0) (between agrees 
       (dropin_asks files (map string_bytes (drop i xs))))
       → (files : Files) → agrees files → Going asks a c (dropin_asks files (map string_bytes xs))
       (dropin_asks files (map string_bytes (drop (i + 1) xs)))
-  dropin_more found read made going files (stays files known) =
+  dropin_more found read made going files known =
       text_more asks (is_refused files) unit_file (dropin_asks files (map string_bytes xs)) a b c xs i x text h is said
       (ap is_refusal (read files known))
       (going files (stays files known)) made
@@ -203,7 +203,7 @@ module _ {S : Type 0} (asks : S → ShelfCall → S → Type 0) (between agrees 
       (folder_asks files (map string_bytes (drop i xs))))
       → (files : Files) → agrees files → Going asks a c (folder_asks files (map string_bytes xs))
       (folder_asks files (map string_bytes (drop (i + 1) xs)))
-  folder_more names listed made going files (stays files known) =
+  folder_more names listed made going files known =
       text_more asks (is_overfull files) NamesIn (folder_asks files (map string_bytes xs)) a b c xs i x text h is said
       (listed files known).1
       (going files (stays files known)) made

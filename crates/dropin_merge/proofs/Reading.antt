@@ -4,6 +4,7 @@ use Rattle.std.proofs.Common.{Result, Ok, Err, map, filter, String, Global, refl
 use Rattle.std.specs.Prelude.{not, unwrap_or, string_bytes}
 use Rattle.std.specs.List.{slice_get, filter_map}
 use Rattle.std.specs.Result.{result_ok, result_err}
+use Rattle.host_io.specs.Agreeing.{ForFiles}
 use Rattle.host_io.specs.Files.{Files, bytes_at}
 use Rattle.dropin_merge.proofs.Left.{left_more}
 use Rattle.dropin_merge.specs.Answers.{IsUnlessFailed}

@@ -1,5 +1,5 @@
 -- A run of words is one of the same words, however they are lent.
-use Rattle.std.proofs.Common.{◌≡◌, ℕ, List, Option, inl, subst}
+use Rattle.std.proofs.Common.{◌≡◌, ℕ, List, inl, subst}
 use Rattle.top_call.specs.host_io.Calls.{ShelfCall}
 use Rattle.top_call.specs.host_io.Files.{Files}
 use Rattle.top_call.specs.exposure_score.StoredTests.{StoredTests}
@@ -9,14 +9,14 @@ use Rattle.top_call.specs.unit_inputs.declared.command_answers.exit_status.ExitS
 use Rattle.top_call.specs.Promise.{DoesWhatIsAsked}
 use Rattle.sandbox_cli.specs.Running.{EndsWords, asked_by}
 
-module _ {S K : Type 0} {asks : S → ShelfCall → S → Type 0} {told : Option Files} {stored : StoredTests} {wishes : Wishes} {outside : Outside} {shelf_before shelf_after : S} {sink_before sink_after : K} {status : ExitStatus} {lent words : List (List ℕ)} where
-  pub words_ran : lent ≡ words → DoesWhatIsAsked asks (asked_by lent told stored wishes) outside shelf_before shelf_after status
-      → EndsWords asks (asked_by words told stored wishes) outside shelf_before shelf_after sink_before sink_after status
-  words_ran same ran = inl (subst (λ own. DoesWhatIsAsked asks (asked_by own told stored wishes) outside shelf_before shelf_after status)
+module _ {S K : Type 0} {asks : S → ShelfCall → S → Type 0} {agrees : Files → Type 0} {stored : StoredTests} {wishes : Wishes} {outside : Outside} {shelf_before shelf_after : S} {sink_before sink_after : K} {status : ExitStatus} {lent words : List (List ℕ)} where
+  pub words_ran : lent ≡ words → DoesWhatIsAsked asks (asked_by lent agrees stored wishes) outside shelf_before shelf_after status
+      → EndsWords asks (asked_by words agrees stored wishes) outside shelf_before shelf_after sink_before sink_after status
+  words_ran same ran = inl (subst (λ own. DoesWhatIsAsked asks (asked_by own agrees stored wishes) outside shelf_before shelf_after status)
       same ran)
 
-  pub words_ended : lent ≡ words → EndsWords asks (asked_by lent told stored wishes) outside shelf_before shelf_after sink_before
+  pub words_ended : lent ≡ words → EndsWords asks (asked_by lent agrees stored wishes) outside shelf_before shelf_after sink_before
       sink_after status
-      → EndsWords asks (asked_by words told stored wishes) outside shelf_before shelf_after sink_before sink_after status
+      → EndsWords asks (asked_by words agrees stored wishes) outside shelf_before shelf_after sink_before sink_after status
   words_ended same ended = subst
-      (λ own. EndsWords asks (asked_by own told stored wishes) outside shelf_before shelf_after sink_before sink_after status) same ended
+      (λ own. EndsWords asks (asked_by own agrees stored wishes) outside shelf_before shelf_after sink_before sink_after status) same ended

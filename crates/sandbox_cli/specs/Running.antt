@@ -1,5 +1,5 @@
 -- What the program does with its arguments.
-use Rattle.std.specs.Prelude.{◌≡◌, ◌⊎◌, ℕ, List, [], drop, map, string_bytes, Option, Result, Ok, Err, String, Vec}
+use Rattle.std.specs.Prelude.{◌≡◌, ◌⊎◌, ℕ, List, [], drop, map, string_bytes, Result, Ok, Err, String, Vec}
 use Rattle.std.specs.Process.{exit_status}
 use Rattle.std.specs.declared.alloc.Global.{Global}
 use Rattle.std.specs.declared.process.ExitCode.{ExitCode}
@@ -19,9 +19,9 @@ abbrev pub words_behind : {E : Type 0} → Result (Vec (String Global) Global) E
 words_behind (Ok all) = map string_bytes (drop 1 all.items)
 words_behind (Err error) = []
 
--- the request of a run: these words, over the files that the shelf reveals, with these tests and wishes
-abbrev pub asked_by : List (List ℕ) → Option Files → StoredTests → Wishes → Asked
-asked_by words told stored wishes = record { words = words; told = told; stored = stored; wishes = wishes }
+-- the request of a run: these words, over the files that agree with what the shelf answered, with these tests and wishes
+abbrev pub asked_by : List (List ℕ) → (Files → Type 0) → StoredTests → Wishes → Asked
+asked_by words agrees stored wishes = record { words = words; agrees = agrees; stored = stored; wishes = wishes }
 
 -- the run does what the words ask; or there was not even memory for the words, and nothing was read or written
 abbrev pub EndsWords : {S K : Type 0} → (S → ShelfCall → S → Type 0) → Asked → Outside → S → S → K → K → ExitStatus → Type 0

@@ -1,6 +1,7 @@
 //! A run of the program's arguments, over any files and any output.
 ghost use Rattle.std.specs.Prelude.{◌≡◌, IfOk, drop, map, string_bytes};
 ghost use Rattle.std.specs.Process.{exit_status};
+ghost use Rattle.top_call.specs.host_io.Agreeing.{ForFiles};
 ghost use Rattle.top_call.specs.unit_inputs.command_answers.ExitStatuses.{code_of};
 ghost use Rattle.top_call.specs.Around.{around};
 ghost use Rattle.sandbox_cli.specs.Running.{EndsWords, ExitsBy, asked_by, words_behind};
@@ -53,10 +54,10 @@ fn run_words<S: Shelf, K: Sink>(
     out: &mut K,
 ) -> Status
     ensures ends_as_the_words_run { EndsWords S.asks
-        (asked_by (map string_bytes words.now) (S.told shelf.old) (⟦<CustomTest as Stored>⟧.stored tests.items) (⟦<StoredWish as Wished>⟧.wished wishes.items))
+        (asked_by (map string_bytes words.now) (S.agrees shelf.new) (⟦<CustomTest as Stored>⟧.stored tests.items) (⟦<StoredWish as Wished>⟧.wished wishes.items))
         (around S.faults K.faults K.taken K.puts shelf.old shelf.new out.old out.new)
         shelf.old shelf.new out.old out.new result }
-    ensures map_stays { S.told shelf.new ≡ S.told shelf.old }
+    ensures answers_stay { ForFiles (S.agrees shelf.new) (S.agrees shelf.old) }
 {
     match texts_of(alloc, words) {
         Ok(texts) => run(alloc, texts.as_slice(), shelf, out, tests, wishes),
@@ -74,10 +75,10 @@ fn run_arguments<S: Shelf, K: Sink>(
     out: &mut K,
 ) -> Status
     ensures ends_as_the_words_run { EndsWords S.asks
-        (asked_by (words_behind arguments.now) (S.told shelf.old) (⟦<CustomTest as Stored>⟧.stored tests.items) (⟦<StoredWish as Wished>⟧.wished wishes.items))
+        (asked_by (words_behind arguments.now) (S.agrees shelf.new) (⟦<CustomTest as Stored>⟧.stored tests.items) (⟦<StoredWish as Wished>⟧.wished wishes.items))
         (around S.faults K.faults K.taken K.puts shelf.old shelf.new out.old out.new)
         shelf.old shelf.new out.old out.new result }
-    ensures map_stays { S.told shelf.new ≡ S.told shelf.old }
+    ensures answers_stay { ForFiles (S.agrees shelf.new) (S.agrees shelf.old) }
 {
     match arguments {
         Ok(all) => run_words(alloc, behind_name(all), tests, wishes, shelf, out),
@@ -101,10 +102,10 @@ pub fn run_here<S: Shelf, K: Sink>(
     requires the_programs_tests { AreProgramTests (λ test. test.id) (λ test. test.range) (λ test. ⟦<Box<dyn Fn(&Facts) -> u32> as Fn(&Facts) -> u32>⟧.post test.check) tests.items }
     requires the_programs_wishes { AreProgramWishes (λ wish. string_bytes wish.id) (λ wish. wish.must_open) (λ wish. ⟦<Box<dyn Fn(&[VerdictRow]) -> bool> as Fn(&[VerdictRow]) -> bool>⟧.post wish.test) wishes.items }
     ensures exits_as_the_words_run { ExitsBy (EndsWords S.asks
-        (asked_by (words_behind arguments.now) (S.told shelf.old) (⟦<CustomTest as Stored>⟧.stored tests.items) (⟦<StoredWish as Wished>⟧.wished wishes.items))
+        (asked_by (words_behind arguments.now) (S.agrees shelf.new) (⟦<CustomTest as Stored>⟧.stored tests.items) (⟦<StoredWish as Wished>⟧.wished wishes.items))
         (around S.faults K.faults K.taken K.puts shelf.old shelf.new out.old out.new)
         shelf.old shelf.new out.old out.new) result }
-    ensures map_stays { S.told shelf.new ≡ S.told shelf.old }
+    ensures answers_stay { ForFiles (S.agrees shelf.new) (S.agrees shelf.old) }
 {
     exit_code(run_arguments(alloc, arguments, tests, wishes, shelf, out))
 }

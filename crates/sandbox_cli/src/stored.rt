@@ -1,6 +1,7 @@
 //! The stored tests of the program, and its wish.
 
 ghost use Rattle.std.specs.Prelude.{◌≡◌, ◌≤◌, IfErr, IfOk};
+ghost use Rattle.top_call.specs.host_io.Agreeing.{ForFiles};
 ghost use Rattle.top_call.specs.Around.{around};
 ghost use Rattle.top_call.specs.exposure_score.Stored.{ambient_count, writable_paths};
 ghost use Rattle.top_call.specs.unit_inputs.command_answers.Runs.{HasFaultCause};
@@ -28,7 +29,7 @@ pub fn run_with_tests<S: Shelf, K: Sink>(
 ) -> Result<ExitCode, AllocError>
     ensures faults_have_causes { IfOk result (ExitsBy (λ status. HasFaultCause status
         (around S.faults K.faults K.taken K.puts shelf.old shelf.new out.old out.new))) }
-    ensures map_stays { S.told shelf.new ≡ S.told shelf.old }
+    ensures answers_stay { ForFiles (S.agrees shelf.new) (S.agrees shelf.old) }
 
     // Without memory for the tests and the wish nothing is read or written.
     ensures shelf_stays_without_memory { IfErr result (λ error. shelf.new ≡ shelf.old) }

@@ -30,22 +30,22 @@ ran_fixed fixed only line accepted outside ended whole answers ends is same fini
     (ends, is) (λ e. cc) (quiet outside.shelf_before outside.shelf_after (Ok fixed) same (λ e. cc)) finished
 
 -- What was done for a request was done for the words that ask for it, with the tests and wishes that are lent.
-module _ {S T W : Type 0} (asks : S → ShelfCall → S → Type 0) (told : Option Files) (stored : List T → StoredTests) (wished : List W → Wishes) (outside : Outside) (before after : S) where
+module _ {S T W : Type 0} (asks : S → ShelfCall → S → Type 0) (agrees : Files → Type 0) (stored : List T → StoredTests) (wished : List W → Wishes) (outside : Outside) (before after : S) where
   pub does_for_words : (request : Option Request) (words : List (List ℕ)) (lent tests : List T) (lent_wishes wishes : List W)
       (ended status : ExitStatus)
       → request ≡ request_in words → lent ≡ tests → lent_wishes ≡ wishes → status ≡ ended
-      → IsRun (laws_by request told (stored lent) (wished lent_wishes)) ended outside
-      → AsksInOrder asks told (asks_by request (stored lent)) before after (course_of_run ended)
-      → (((laws_by request told (stored lent) (wished lent_wishes)).reads → ⊥) → after ≡ before)
-      → DoesWhatIsAsked asks (record { words = words; told = told; stored = stored tests; wishes = wished wishes }) outside before after
+      → IsRun (laws_by request agrees (stored lent) (wished lent_wishes)) ended outside
+      → AsksInOrder asks agrees (asks_by request (stored lent)) before after (course_of_run ended)
+      → (((laws_by request agrees (stored lent) (wished lent_wishes)).reads → ⊥) → after ≡ before)
+      → DoesWhatIsAsked asks (record { words = words; agrees = agrees; stored = stored tests; wishes = wished wishes }) outside before after
       status
   does_for_words request words lent tests lent_wishes wishes ended status is lends lends_wishes same run in_order quiet =
-      let asked : Asked = record { words = words; told = told; stored = stored tests; wishes = wished wishes } in
+      let asked : Asked = record { words = words; agrees = agrees; stored = stored tests; wishes = wished wishes } in
       let ran : IsRun (laws_of asked) status outside =
       subst (λ status. IsRun (laws_of asked) status outside) (sym same)
-      (subst (λ these. IsRun (laws_by (request_in words) told (stored tests) (wished these)) ended outside) lends_wishes
-      (subst (λ these. IsRun (laws_by (request_in words) told (stored these) (wished lent_wishes)) ended outside) lends
-      (subst (λ own. IsRun (laws_by own told (stored lent) (wished lent_wishes)) ended outside) is run))) in
+      (subst (λ these. IsRun (laws_by (request_in words) agrees (stored tests) (wished these)) ended outside) lends_wishes
+      (subst (λ these. IsRun (laws_by (request_in words) agrees (stored these) (wished lent_wishes)) ended outside) lends
+      (subst (λ own. IsRun (laws_by own agrees (stored lent) (wished lent_wishes)) ended outside) is run))) in
       record {
         prints_the_whole_text = ran.prints_the_whole_text;
         prints_a_prefix = ran.prints_a_prefix;
@@ -53,11 +53,11 @@ module _ {S T W : Type 0} (asks : S → ShelfCall → S → Type 0) (told : Opti
         faults_have_causes = ran.faults_have_causes;
         completes = ran.completes;
         reads_in_order =
-            subst (λ status. AsksInOrder asks told (asks_of asked) before after (course_of_run status)) (sym same)
-            (subst (λ these. AsksInOrder asks told (asks_by (request_in words) (stored these)) before after (course_of_run ended)) lends
-            (subst (λ own. AsksInOrder asks told (asks_by own (stored lent)) before after (course_of_run ended)) is in_order));
+            subst (λ status. AsksInOrder asks agrees (asks_of asked) before after (course_of_run status)) (sym same)
+            (subst (λ these. AsksInOrder asks agrees (asks_by (request_in words) (stored these)) before after (course_of_run ended)) lends
+            (subst (λ own. AsksInOrder asks agrees (asks_by own (stored lent)) before after (course_of_run ended)) is in_order));
         reads_only_for_a_command =
-            subst (λ these. ((laws_by (request_in words) told (stored tests) (wished these)).reads → ⊥) → after ≡ before) lends_wishes
-            (subst (λ these. ((laws_by (request_in words) told (stored these) (wished lent_wishes)).reads → ⊥) → after ≡ before) lends
-            (subst (λ own. ((laws_by own told (stored lent) (wished lent_wishes)).reads → ⊥) → after ≡ before) is quiet));
+            subst (λ these. ((laws_by (request_in words) agrees (stored tests) (wished these)).reads → ⊥) → after ≡ before) lends_wishes
+            (subst (λ these. ((laws_by (request_in words) agrees (stored these) (wished lent_wishes)).reads → ⊥) → after ≡ before) lends
+            (subst (λ own. ((laws_by own agrees (stored lent) (wished lent_wishes)).reads → ⊥) → after ≡ before) is quiet));
       }

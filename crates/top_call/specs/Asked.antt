@@ -27,42 +27,42 @@ use Rattle.top_call.specs.Requests.{WhyOf, LinesOf, ScoreOf, CheckOf, FleetOf, S
 use Rattle.top_call.specs.Texts.{help_text, version_text, words_line}
 use denote.Ref.{Bor}
 
--- the words after the program's name, the files of the shelf if it reveals them, and the tests and wishes that the caller
--- passes in
+-- the words after the program's name, the files that agree with what the shelf answered in the run, and the tests and wishes that
+-- the caller passes in
 pub record Asked : Type 1 where
   pub words : List (List ℕ)
-  pub told : Option Files
+  pub agrees : Files → Type 0
   pub stored : StoredTests
   pub wishes : Wishes
 
-abbrev pub asked : List (Bor (List ℕ)) → Option Files → StoredTests → Wishes → Asked
-asked words told stored wishes = record { words = map (λ word. word.now) words; told = told; stored = stored; wishes = wishes }
+abbrev pub asked : List (Bor (List ℕ)) → (Files → Type 0) → StoredTests → Wishes → Asked
+asked words agrees stored wishes = record { words = map (λ word. word.now) words; agrees = agrees; stored = stored; wishes = wishes }
 
 -- each request has its laws
-abbrev pub laws_for : Request → Option Files → StoredTests → Wishes → Laws
-laws_for HelpAlone told stored wishes = fixed_laws Done help_text (Unit {0})
-laws_for VersionAlone told stored wishes = fixed_laws Done version_text (Unit {0})
-laws_for (FilterOf unit) told stored wishes = laws_over told (filter_laws unit)
-laws_for (PlanOf unit) told stored wishes = laws_over told (plan_laws unit)
-laws_for (JudgeOf unit) told stored wishes = laws_over told (judge_laws unit)
-laws_for (ReplayOf unit script) told stored wishes = laws_over told (replay_laws unit script)
-laws_for (DeriveOf unit script) told stored wishes = laws_over told (derive_laws unit script)
-laws_for (EffectOf unit dropin) told stored wishes = laws_over told (effect_laws unit dropin)
-laws_for (TightenOf unit keep) told stored wishes = tighten_laws told unit keep wishes
-laws_for (WhyOf unit words) told stored wishes = laws_over told (why_laws unit words)
-laws_for (LinesOf unit) told stored wishes = laws_over told (lines_laws unit)
-laws_for (ScoreOf unit policy threshold) told stored wishes = laws_over told (score_laws unit policy threshold stored)
-laws_for (CheckOf unit filter path) told stored wishes = check_laws told unit filter path
-laws_for (FleetOf policy) told stored wishes = laws_over told (fleet_laws policy stored)
-laws_for (SampleOf number) told stored wishes = sample_laws number
+abbrev pub laws_for : Request → (Files → Type 0) → StoredTests → Wishes → Laws
+laws_for HelpAlone agrees stored wishes = fixed_laws Done help_text (Unit {0})
+laws_for VersionAlone agrees stored wishes = fixed_laws Done version_text (Unit {0})
+laws_for (FilterOf unit) agrees stored wishes = laws_over agrees (filter_laws unit)
+laws_for (PlanOf unit) agrees stored wishes = laws_over agrees (plan_laws unit)
+laws_for (JudgeOf unit) agrees stored wishes = laws_over agrees (judge_laws unit)
+laws_for (ReplayOf unit script) agrees stored wishes = laws_over agrees (replay_laws unit script)
+laws_for (DeriveOf unit script) agrees stored wishes = laws_over agrees (derive_laws unit script)
+laws_for (EffectOf unit dropin) agrees stored wishes = laws_over agrees (effect_laws unit dropin)
+laws_for (TightenOf unit keep) agrees stored wishes = tighten_laws agrees unit keep wishes
+laws_for (WhyOf unit words) agrees stored wishes = laws_over agrees (why_laws unit words)
+laws_for (LinesOf unit) agrees stored wishes = laws_over agrees (lines_laws unit)
+laws_for (ScoreOf unit policy threshold) agrees stored wishes = laws_over agrees (score_laws unit policy threshold stored)
+laws_for (CheckOf unit filter path) agrees stored wishes = check_laws agrees unit filter path
+laws_for (FleetOf policy) agrees stored wishes = laws_over agrees (fleet_laws policy stored)
+laws_for (SampleOf number) agrees stored wishes = sample_laws number
 
 -- words that are no command are refused whatever the files
-abbrev pub laws_by : Option Request → Option Files → StoredTests → Wishes → Laws
-laws_by None told stored wishes = fixed_laws NoCommand words_line ⊥
-laws_by (Some request) told stored wishes = laws_for request told stored wishes
+abbrev pub laws_by : Option Request → (Files → Type 0) → StoredTests → Wishes → Laws
+laws_by None agrees stored wishes = fixed_laws NoCommand words_line ⊥
+laws_by (Some request) agrees stored wishes = laws_for request agrees stored wishes
 
 abbrev pub laws_of : Asked → Laws
-laws_of asked = laws_by (request_in asked.words) asked.told asked.stored asked.wishes
+laws_of asked = laws_by (request_in asked.words) asked.agrees asked.stored asked.wishes
 
 -- the admitted texts, each with the ending after it
 abbrev pub Prints : Asked → ExitStatus → List ℕ → Type 0

@@ -1,6 +1,7 @@
 //! The top call.
 ghost use Rattle.std.specs.Prelude.{◌≡◌, IfSome};
 ghost use Rattle.std.specs.Option.{option_map};
+ghost use Rattle.derive_command.specs.host_io.Agreeing.{ForFiles};
 ghost use Rattle.derive_command.specs.unit_inputs.command_answers.Asking.{course_of_run};
 ghost use Rattle.derive_command.specs.unit_inputs.command_answers.Runs.{IsRun};
 ghost use Rattle.derive_command.specs.unit_inputs.Asking.{AsksInOrder};
@@ -28,13 +29,13 @@ fn answer_request<S: Shelf, K: Sink>(
     wishes: &[StoredWish],
 ) -> ExitStatus
     requires numbered { IsNumbered request }
-    ensures runs { IsRun (laws_for (request_of request.entry) (S.told shelf.old) (⟦<CustomTest as Stored>⟧.stored tests.now) (⟦<StoredWish as Wished>⟧.wished wishes.now))
+    ensures runs { IsRun (laws_for (request_of request.entry) (S.agrees shelf.new) (⟦<CustomTest as Stored>⟧.stored tests.now) (⟦<StoredWish as Wished>⟧.wished wishes.now))
         result (around S.faults K.faults K.taken K.puts shelf.old shelf.new out.old out.new) }
-    ensures reads_in_order { AsksInOrder S.asks (S.told shelf.old) (asks_for (request_of request.entry) (⟦<CustomTest as Stored>⟧.stored tests.now))
+    ensures reads_in_order { AsksInOrder S.asks (S.agrees shelf.new) (asks_for (request_of request.entry) (⟦<CustomTest as Stored>⟧.stored tests.now))
         shelf.old shelf.new (course_of_run result) }
-    ensures reads_only_for_it { ((laws_for (request_of request.entry) (S.told shelf.old) (⟦<CustomTest as Stored>⟧.stored tests.now) (⟦<StoredWish as Wished>⟧.wished wishes.now)).reads → ⊥)
+    ensures reads_only_for_it { ((laws_for (request_of request.entry) (S.agrees shelf.new) (⟦<CustomTest as Stored>⟧.stored tests.now) (⟦<StoredWish as Wished>⟧.wished wishes.now)).reads → ⊥)
         → shelf.new ≡ shelf.old }
-    ensures map_stays { S.told shelf.new ≡ S.told shelf.old }
+    ensures answers_stay { ForFiles (S.agrees shelf.new) (S.agrees shelf.old) }
 {
     match request {
         Request::Help => finish(alloc, Ok(texts::help()), out),
@@ -95,13 +96,13 @@ fn answer<S: Shelf, K: Sink>(
     wishes: &[StoredWish],
 ) -> ExitStatus
     requires numbered { IfSome request IsNumbered }
-    ensures runs { IsRun (laws_by (option_map request_of request.entry) (S.told shelf.old) (⟦<CustomTest as Stored>⟧.stored tests.now) (⟦<StoredWish as Wished>⟧.wished wishes.now))
+    ensures runs { IsRun (laws_by (option_map request_of request.entry) (S.agrees shelf.new) (⟦<CustomTest as Stored>⟧.stored tests.now) (⟦<StoredWish as Wished>⟧.wished wishes.now))
         result (around S.faults K.faults K.taken K.puts shelf.old shelf.new out.old out.new) }
-    ensures reads_in_order { AsksInOrder S.asks (S.told shelf.old) (asks_by (option_map request_of request.entry) (⟦<CustomTest as Stored>⟧.stored tests.now))
+    ensures reads_in_order { AsksInOrder S.asks (S.agrees shelf.new) (asks_by (option_map request_of request.entry) (⟦<CustomTest as Stored>⟧.stored tests.now))
         shelf.old shelf.new (course_of_run result) }
-    ensures reads_only_for_it { ((laws_by (option_map request_of request.entry) (S.told shelf.old) (⟦<CustomTest as Stored>⟧.stored tests.now) (⟦<StoredWish as Wished>⟧.wished wishes.now)).reads → ⊥)
+    ensures reads_only_for_it { ((laws_by (option_map request_of request.entry) (S.agrees shelf.new) (⟦<CustomTest as Stored>⟧.stored tests.now) (⟦<StoredWish as Wished>⟧.wished wishes.now)).reads → ⊥)
         → shelf.new ≡ shelf.old }
-    ensures map_stays { S.told shelf.new ≡ S.told shelf.old }
+    ensures answers_stay { ForFiles (S.agrees shelf.new) (S.agrees shelf.old) }
 {
     match request {
         None => finish(alloc, Ok(texts::no_command()), out),
@@ -115,8 +116,9 @@ fn answer<S: Shelf, K: Sink>(
 /// are what a tightened unit must grant. The status says how the run ended: with 0, 1, 2, 3, 7 and 8 a whole text was printed,
 /// with 4 nothing, and with 5 and 6 a prefix of a text. The sink receives each line, with its line feed, as one piece.
 ///
-/// If the shelf reveals its files, exactly the calls of the command are made, in order, up to the first that is refused or
-/// fails. Each answer is checked before the next call.
+/// What was read is what is promised: the text is right for every map from paths to bytes that agrees with the answers of the
+/// shelf in this run. The run makes exactly the calls that such a map requires, in order, up to the first that is refused or fails.
+/// Each answer is checked before the next call.
 pub fn run<S: Shelf, K: Sink>(
     alloc: Global,
     words: &[&str],
@@ -126,10 +128,10 @@ pub fn run<S: Shelf, K: Sink>(
     wishes: Vec<StoredWish>,
 ) -> Status
     ensures does_what_is_asked { DoesWhatIsAsked S.asks
-        (asked words.now (S.told shelf.old) (⟦<CustomTest as Stored>⟧.stored tests.items) (⟦<StoredWish as Wished>⟧.wished wishes.items))
+        (asked words.now (S.agrees shelf.new) (⟦<CustomTest as Stored>⟧.stored tests.items) (⟦<StoredWish as Wished>⟧.wished wishes.items))
         (around S.faults K.faults K.taken K.puts shelf.old shelf.new out.old out.new)
         shelf.old shelf.new result }
-    ensures map_stays { S.told shelf.new ≡ S.told shelf.old }
+    ensures answers_stay { ForFiles (S.agrees shelf.new) (S.agrees shelf.old) }
 {
     Status::of(answer(alloc, parse(words), shelf, out, &tests, &wishes))
 }

@@ -17,7 +17,7 @@ returns-in-Some-clause-reads_only_for_it g c = rw c.in-Some.is c.answer_request.
 pub returns-in-None-clause-reads_in_order : goal.returns-in-None-clause-reads_in_order
 returns-in-None-clause-reads_in_order g c =
     rw c.in-None.is
-    (asked_fixed g.S.Shelf.asks (g.S.Shelf.told c.args.shelf.now) c.args.shelf.now c.no_command.result NoCommand c.finish.result _ refl
+    (asked_fixed g.S.Shelf.asks (g.S.Shelf.agrees c.args.shelf.now) c.args.shelf.now c.no_command.result NoCommand c.finish.result _ refl
     c.no_command.ensures.status c.finish.ensures.finishes)
 
 pub returns-in-Some-clause-reads_in_order : goal.returns-in-Some-clause-reads_in_order

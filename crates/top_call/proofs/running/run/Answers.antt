@@ -8,7 +8,7 @@ use Rattle.top_call.proofs.running.run.Goals as goal
 
 pub returns-clause-does_what_is_asked : goal.returns-clause-does_what_is_asked
 returns-clause-does_what_is_asked g c =
-    does_for_words g.S.Shelf.asks (g.S.Shelf.told c.args.shelf.now)
+    does_for_words g.S.Shelf.asks (g.S.Shelf.agrees c.answer.new.shelf)
     (λ tests. stored_by (λ test. test.id) (λ test. test.range)
     (λ test shown answer. (goal.dyn-1-members g).post (test.check.vtable, test.check.value) (shown, tt) answer) tests)
     (λ wishes. wishes_by (λ wish. wish.must_open)
