@@ -25,10 +25,10 @@ few_files n h = grind (arith, nat_tests)
 pub lists_place : (agrees : Files → Type 0) (folder : List ℕ) (names : Vec (String Global) Global) → ForFiles agrees (λ files. Lists files folder (Ok names))
     → ForFiles agrees (λ files. ListsPlace (names_in files folder) (Ok names))
 lists_place agrees folder names listed files agree =
-  let h = listed files agree in (
-  λ q. sym (list_any-IsPermutation (bytes_eq q) (names_in files folder) (map string_bytes names.items) h.names_of_the_folder),
-  few_files (length (names_in files folder)) h.not_too_many,
-)
+    let h = listed files agree in (
+      λ q. sym (list_any-IsPermutation (bytes_eq q) (names_in files folder) (map string_bytes names.items) h.names_of_the_folder),
+      few_files (length (names_in files folder)) h.not_too_many,
+    )
 
 -- ---- the names of a place
 pub names_more : (place : List ℕ) (m n : BTreeMap (String Global) (String Global)) (names : List (String Global)) (i : ℕ)

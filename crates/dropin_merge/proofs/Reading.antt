@@ -18,7 +18,6 @@ use Rattle.dropin_merge.specs.declared.errors.ResolveError.{ResolveError}
 use Rattle.dropin_merge.specs.declared.errors.ResolveError.TheVariants.{BadName, NotFound, Masked, DropIns, TooLarge, Text, ReadFault}
 use Rattle.dropin_merge.specs.declared.errors.ResolveError.TheVariants.{Memory}
 
--- a property of the files that the shelf shows, in both forms
 -- a refusal stays wanted
 pub failed_on : {T U : Type 0} (e : ResolveError) (w : Result T ResolveError) (v : Result U ResolveError) → (w ≡ Err e → v ≡ Err e)
     → IsUnlessFailed {T = T} (Err e) w → IsUnlessFailed {T = U} (Err e) v

@@ -1,4 +1,4 @@
--- The answers of the parts of a resolution over a shelf that shows its files.
+-- The answers of the parts of a resolution, by the files that agree with the shelf.
 use Rattle.std.specs.Prelude.{Vec, String, string_bytes, ◌≡◌, ◌≢◌, ◌≤◌, ◌&&◌, nat_lt, ℕ, true, false, cond, Option, Some, None, Result, Ok}
 use Rattle.std.specs.Prelude.{Err, List, [], ◌∷◌, map, length}
 use Rattle.std.specs.List.{All, list_any}

@@ -85,7 +85,7 @@ fn resolve_text<S: Shelf>(
 /// - `DropIns`: a folder in one location has more than 4,096 files, or more than 256 drop-ins win;
 /// - `TooLarge` or `Text` of a drop-in, in order.
 ///
-/// Each file is judged before the next is read. A shelf that shows its files is called for these, in this order:
+/// Each file is judged before the next is read. The shelf is called for these, in this order:
 /// - the paths of the fragment, up to the first that exists;
 /// - the folders of drop-ins;
 /// - the winning drop-ins, up to the first that is refused.

@@ -68,12 +68,7 @@ impl<R: Files + AllocGlobal + Clone + Drop> DirShelf<R> {
     }
 
     // Reads the file at the path, which may have at most `limit` bytes.
-    fn read_outside(
-        &mut self,
-        alloc: Global,
-        path: &str,
-        limit: u64,
-    ) -> Result<Vec<u8>, ShelfError>
+    fn read_outside(&mut self, alloc: Global, path: &str, limit: u64) -> Result<Vec<u8>, ShelfError>
         ensures within_limit { IfOk result (λ bytes. vec_len bytes ≤ limit) }
         ensures fault_rose { HasCause self.old.faults self.new.faults result }
         ensures no_other_fault { StaysUnless Failed self.old.faults self.new.faults result }

@@ -8,11 +8,12 @@ use Rattle.derive_command.specs.unit_inputs.declared.command_answers.exit_status
 use Rattle.derive_command.specs.unit_inputs.Asking.{AsksInOrder}
 use Rattle.top_call.specs.Asked.{Accepts, Asked, Prints, ReadsFiles, asks_of, laws_of}
 
--- A run of this request, with the shelf and the sink around it, that ended with this status. What was read is what is promised: a
--- text is admitted if it is admitted for all files that agree with what the shelf answered in this run. If the status means a whole text,
--- the sink took an admitted text, and received each of its lines, with the line feed, as one piece. With any status it received
--- nothing; or it took a prefix of an admitted text, and received the lines of that, each as one piece, up to where the run
--- stopped.
+-- A run of this request, with the shelf and the sink around it, that ended with this status.
+-- What was read is what is promised: a text is admitted if it is admitted for all files that agree with what the shelf answered in
+-- this run.
+-- If the status means a whole text, the sink took an admitted text, and received each of its lines, with the line feed, as one
+-- piece. With any status it received nothing; or it took a prefix of an admitted text, and received the lines of that, each as one
+-- piece, up to where the run stopped.
 -- The inputs decide how the run ends, no fault occurs without its cause, and accepted inputs without a fault are answered. The
 -- shelf receives the calls that the files require, in order, and none if the request reads no files.
 pub record DoesWhatIsAsked {S : Type 0} (asks : S → ShelfCall → S → Type 0) (asked : Asked) (outside : Outside) (before after : S) (status : ExitStatus) : Type 0 where

@@ -1,4 +1,4 @@
--- The results of the parts of the listing, if the shelf reveals its files.
+-- The results of the parts of the listing, by the files that agree with the shelf.
 use Rattle.std.specs.Prelude.{Vec, String, string_bytes, ◌≡◌, nat_lt, ℕ, true, false, cond, Option, None, Result, Ok, Err, List, length}
 use Rattle.std.specs.Prelude.{map, flat_map}
 use Rattle.std.specs.List.{list_any}

@@ -19,8 +19,7 @@ const MOST_UNITS: usize = 1024;
 ///
 /// Returns `TooMany` exactly if one of the folders has more than 4,096 files, or there are more than 1,024 units. Returns
 /// `ReadFault` if the shelf's count of faults rose; any other result leaves the count. A folder is checked before the next one
-/// is listed. So if the shelf reveals its files, exactly the folders up to the first with too many files are listed, in this
-/// order.
+/// is listed. So exactly the folders up to the first with too many files are listed, in this order.
 pub fn fleet_names<S: Shelf>(alloc: Global, shelf: &mut S) -> Result<Vec<UnitName>, NamesError>
     ensures names_the_units { ForFiles (S.agrees shelf.new) (λ files. AreNamed files result) }
     ensures asks_in_order { ForFiles (S.agrees shelf.new) (λ files. AsksExactly S.asks shelf.old shelf.new (names_asks files) (course result)) }
