@@ -1,5 +1,6 @@
 //! The script, with the lines of its refusals.
-ghost use Rattle.std.specs.Prelude.{◌≡◌, ◌∷◌, [], IfOk, IfSome, IsErrOf};
+ghost use Rattle.std.specs.Prelude.{◌≡◌, ◌∷◌, [], IfOk, IsErrOf};
+ghost use Rattle.plan_command.specs.host_io.Agreeing.{ForFiles};
 ghost use Rattle.plan_command.specs.host_io.Calls.{AsksExactly};
 ghost use Rattle.plan_command.specs.unit_inputs.command_answers.Asking.{course, input_file};
 ghost use Rattle.plan_command.specs.unit_inputs.command_answers.CommandErrors.{HasReadCause, IsAnswer};
@@ -62,9 +63,9 @@ pub fn read_script<S: Shelf>(
     path: &str,
     calls: &CallTable,
 ) -> Result<Script, CommandError>
-    ensures reads_the_script { IfSome (S.told shelf.old) (λ files. IsAnswer (λ script. script) result (script_in files path.now calls.now)) }
+    ensures reads_the_script { ForFiles (S.agrees shelf.new) (λ files. IsAnswer (λ script. script) result (script_in files path.now calls.now)) }
     ensures asks_for_it { AsksExactly S.asks shelf.old shelf.new (input_file path.now ∷ []) (course result) }
-    ensures map_stays { S.told shelf.new ≡ S.told shelf.old }
+    ensures answers_stay { ForFiles (S.agrees shelf.new) (S.agrees shelf.old) }
     ensures fault_rose { HasReadCause (S.faults shelf.old) (S.faults shelf.new) result }
 {
     let bytes = read_input(alloc, shelf, path)?;

@@ -1,6 +1,7 @@
 -- What is ready, and the line of a refusal, are what the definitions admit.
 use Rattle.std.proofs.Common.{◌≡◌, ◌∙◌, ℕ, Option, Some, None, List, ◌∷◌, Result, Ok, Err, refl, sym, ap, subst, inl, inr}
-use Rattle.std.specs.Prelude.{◌⊎◌, IfSome, IsTrue, option_map}
+use Rattle.std.specs.Prelude.{◌⊎◌, IsTrue, option_map}
+use Rattle.asked_service.specs.host_io.Agreeing.{ForFiles}
 use Rattle.asked_service.specs.host_io.Files.{Files}
 use Rattle.asked_service.specs.call_table.Table.{Table}
 use Rattle.asked_service.specs.kernel_model.declared.kernel_calls.call.Call.{Call}
@@ -57,22 +58,22 @@ printed_answer inputs script plain _ _ (allowed names is only) = derived names i
 printed_answer inputs script plain _ _ (not_launched refusal is) = refused refusal is
 
 -- ---- the whole
-module _ (told : Option Files) (unit path : List ℕ) where
+module _ (agrees : Files → Type 0) (unit path : List ℕ) where
   -- each ending behind what is derived is an answer
   answered : (status : ExitStatus) → (derive_laws unit path).may_end status → IsTrue (is_answer status)
   answered status (inl done) = subst (λ e. IsTrue (is_answer e)) (sym done) refl
   answered status (inr launch) = subst (λ e. IsTrue (is_answer e)) (sym launch) refl
 
-  pub together : GoTogether (laws_over told (derive_laws unit path))
-  together = go_together (derive_laws unit path) told answered
+  pub together : GoTogether (laws_over agrees (derive_laws unit path))
+  together = go_together (derive_laws unit path) agrees answered
 
 -- an input is refused
-pub stops_at_inputs : (P : Files → UnitInputs → Type 0) (told : Option Files) (unit path : List ℕ) (stop : CommandError)
-    → IfSome told (λ files. Prepares (P files) (input_refusals files unit) (Err stop))
-    → IsAdmitted (laws_over told (derive_laws unit path)) status_of text_of (Err stop)
-stops_at_inputs P told unit path stop said =
-    stop_is_admitted (derive_laws unit path) status_of text_of (λ (allowing : ReadyText). Unit {0}) told stop
-    (steps.stops_at_inputs P (λ files (allowing : ReadyText). Unit {0}) told unit
+pub stops_at_inputs : (P : Files → UnitInputs → Type 0) (agrees : Files → Type 0) (unit path : List ℕ) (stop : CommandError)
+    → ForFiles agrees (λ files. Prepares (P files) (input_refusals files unit) (Err stop))
+    → IsAdmitted (laws_over agrees (derive_laws unit path)) status_of text_of (Err stop)
+stops_at_inputs P agrees unit path stop said =
+    stop_is_admitted (derive_laws unit path) status_of text_of (λ (allowing : ReadyText). Unit {0}) agrees stop
+    (steps.stops_at_inputs P (λ files (allowing : ReadyText). Unit {0}) agrees unit
     (λ files. refusals_by (refusals_behind files unit path) (inputs_of files unit)) stop said)
 
 -- behind inputs that are read
@@ -90,40 +91,36 @@ refused_script unit path inputs found (stop.Refused line) is = ap (λ one. first
 refused_script unit path inputs found stop.ReadFault is = tt
 refused_script unit path inputs found stop.Memory is = tt
 
-pub stops_at_script : (told now : Option Files) (unit path : List ℕ) (inputs : UnitInputs) (table : Table) (stop : CommandError) → now ≡ told
+pub stops_at_script : (between agrees : Files → Type 0) (unit path : List ℕ) (inputs : UnitInputs) (table : Table) (stop : CommandError) → ForFiles agrees between
     → table ≡ (inputs_view inputs).calls
-    → IfSome told (λ files. AreRead files unit inputs)
-    → IfSome now (λ files. IsAnswer {T = List Call} (λ script. script) (Err stop) (script_in files path table))
-    → IsAdmitted (laws_over told (derive_laws unit path)) status_of text_of (Err stop)
-stops_at_script told now unit path inputs table stop same by read said =
-    stop_is_admitted (derive_laws unit path) status_of text_of (λ (allowing : ReadyText). Unit {0}) told stop (at_script told same read)
+    → ForFiles between (λ files. AreRead files unit inputs)
+    → ForFiles agrees (λ files. IsAnswer {T = List Call} (λ script. script) (Err stop) (script_in files path table))
+    → IsAdmitted (laws_over agrees (derive_laws unit path)) status_of text_of (Err stop)
+stops_at_script between agrees unit path inputs table stop stays by read said =
+    stop_is_admitted (derive_laws unit path) status_of text_of (λ (allowing : ReadyText). Unit {0}) agrees stop at_script
   where
-    at_script : (told : Option Files) → now ≡ told → IfSome told (λ files. AreRead files unit inputs)
-        → IfSome told (λ files. Prepares (λ (allowing : ReadyText). Unit {0}) (derive_refusals files unit path) (Err stop))
-    at_script None same read = tt
-    at_script (Some files) same read =
+    at_script : ForFiles agrees (λ files. Prepares (λ (allowing : ReadyText). Unit {0}) (derive_refusals files unit path) (Err stop))
+    at_script files agree =
         stops_as (λ (allowing : ReadyText). Unit {0}) stop
         (refusals_by_script unit path (inputs_view inputs) (script_in files path (inputs_view inputs).calls))
-        (derive_refusals files unit path) (behind_inputs files unit path inputs read)
+        (derive_refusals files unit path) (behind_inputs files unit path inputs (read files (stays files agree)))
         (refused_script unit path (inputs_view inputs) (script_in files path (inputs_view inputs).calls) stop
         (subst (λ own. IsAnswer {T = List Call} (λ script. script) (Err stop) (script_in files path own)) by
-        (subst (λ own. IfSome own (λ files. IsAnswer {T = List Call} (λ script. script) (Err stop) (script_in files path table))) same
-        said)))
+        (said files agree)))
 
 -- behind a script that was read
-module _ (told now : Option Files) (unit path : List ℕ) (inputs : UnitInputs) (table : Table) (script : List Call) (same : now ≡ told)
+module _ (between agrees : Files → Type 0) (unit path : List ℕ) (inputs : UnitInputs) (table : Table) (script : List Call) (stays : ForFiles agrees between)
     (by : table ≡ (inputs_view inputs).calls)
-    (are : IfSome told (λ files. AreRead files unit inputs)) (said : IfSome now (λ files. IsAnswer (λ (script : List Call). script) (Ok script) (script_in files path table))) where
-  script_is : (files : Files) → told ≡ Some files → script_in files path (inputs_view inputs).calls ≡ Ok script
+    (are : ForFiles between (λ files. AreRead files unit inputs)) (said : ForFiles agrees (λ files. IsAnswer (λ (script : List Call). script) (Ok script) (script_in files path table))) where
+  script_is : (files : Files) → agrees files → script_in files path (inputs_view inputs).calls ≡ Ok script
   script_is files e =
       subst (λ own. script_in files path own ≡ Ok script) by
-      (subst (λ own. IfSome own (λ files. IsAnswer (λ (script : List Call). script) (Ok script) (script_in files path table)))
-      (same ∙ e) said)
+      (said files e)
 
-  read_is : (files : Files) → told ≡ Some files → AreRead files unit inputs
-  read_is files e = subst (λ own. IfSome own (λ files. AreRead files unit inputs)) e are
+  read_is : (files : Files) → agrees files → AreRead files unit inputs
+  read_is files e = are files (stays files e)
 
-  behind_script : (files : Files) → told ≡ Some files → first_refusal (derive_refusals files unit path)
+  behind_script : (files : Files) → agrees files → first_refusal (derive_refusals files unit path)
       ≡ first_refusal (refusals_behind_script unit path (inputs_view inputs) script)
   behind_script files e =
       behind_inputs files unit path inputs (read_is files e)
@@ -133,29 +130,27 @@ module _ (told now : Option Files) (unit path : List ℕ) (inputs : UnitInputs) 
   admitted : (result : Result ReadyText CommandError)
       → Prepares (λ allowing. AnswersCalls (inputs_view inputs) script (status_of allowing) (text_of allowing))
       (refusals_behind_script unit path (inputs_view inputs) script) result
-      → IsAdmitted (laws_over told (derive_laws unit path)) status_of text_of result
+      → IsAdmitted (laws_over agrees (derive_laws unit path)) status_of text_of result
   admitted (Err stop) answers = stop_is_admitted (derive_laws unit path) status_of text_of
-      (λ allowing. AnswersCalls (inputs_view inputs) script (status_of allowing) (text_of allowing)) told stop (at_stop told refl)
+      (λ allowing. AnswersCalls (inputs_view inputs) script (status_of allowing) (text_of allowing)) agrees stop at_stop
     where
-      at_stop : (own : Option Files) → told ≡ own → IfSome own
+      at_stop : ForFiles agrees
           (λ files. Prepares (λ allowing. AnswersCalls (inputs_view inputs) script (status_of allowing) (text_of allowing))
           (derive_refusals files unit path) (Err stop))
-      at_stop None e = tt
-      at_stop (Some files) e = stops_as (λ allowing. AnswersCalls (inputs_view inputs) script (status_of allowing) (text_of allowing))
+      at_stop files e = stops_as (λ allowing. AnswersCalls (inputs_view inputs) script (status_of allowing) (text_of allowing))
           stop (refusals_behind_script unit path (inputs_view inputs) script) (derive_refusals files unit path)
           (behind_script files e) answers
-  admitted (Ok allowing) answers = ready_is_admitted (derive_laws unit path) status_of text_of told allowing
-      (ends_so (status_of allowing) (text_of allowing) answers.1) (printed told refl)
+  admitted (Ok allowing) answers = ready_is_admitted (derive_laws unit path) status_of text_of agrees allowing
+      (ends_so (status_of allowing) (text_of allowing) answers.1) printed
     where
       ends_so : (status : ExitStatus) (text : List ℕ) → AnswersCalls (inputs_view inputs) script status text
           → (status ≡ Done) ⊎ (status ≡ LaunchRefused)
       ends_so _ _ (allowed names is only) = inl refl
       ends_so _ _ (not_launched refusal is) = inr refl
 
-      printed : (own : Option Files) → told ≡ own → IfSome own
+      printed : ForFiles agrees
           (λ files. AcceptsFiles (derive_laws unit path) files × PrintsDerived files unit path (status_of allowing) (text_of allowing))
-      printed None e = tt
-      printed (Some files) e = (
+      printed files e = (
         behind_script files e ∙ answers.0,
         record {
           inputs = inputs_view inputs;
@@ -171,7 +166,7 @@ module _ (told now : Option Files) (unit path : List ℕ) (inputs : UnitInputs) 
   pub admitted_as : (own : Inputs) (lent : List Call) (result : Result ReadyText CommandError) → own ≡ inputs_view inputs → lent ≡ script
       → Prepares (λ allowing. AnswersCalls own lent (status_of allowing) (text_of allowing))
       (refusals_behind_script unit path own lent) result
-      → IsAdmitted (laws_over told (derive_laws unit path)) status_of text_of result
+      → IsAdmitted (laws_over agrees (derive_laws unit path)) status_of text_of result
   admitted_as own lent result is lends answers =
       admitted result
       (subst (λ these. Prepares (λ allowing. AnswersCalls (inputs_view inputs) these (status_of allowing) (text_of allowing))

@@ -22,9 +22,9 @@ pub fn prepare<S: Shelf>(
     unit: &str,
     script: &str,
 ) -> Result<ReadyText, CommandError>
-    ensures prepares { IsAdmitted (laws_over (S.told shelf.old) (derive_laws unit.now script.now)) status_of text_of result }
-    ensures asks_in_order { AsksInOrder S.asks (S.told shelf.old) (λ files. asks_with_file files unit.now script.now) shelf.old shelf.new (course result) }
-    ensures reads_for_the_unit { ReadsFor S.told S.faults unit.now shelf.old shelf.new result }
+    ensures prepares { IsAdmitted (laws_over (S.agrees shelf.new) (derive_laws unit.now script.now)) status_of text_of result }
+    ensures asks_in_order { AsksInOrder S.asks (S.agrees shelf.new) (λ files. asks_with_file files unit.now script.now) shelf.old shelf.new (course result) }
+    ensures reads_for_the_unit { ReadsFor S.agrees S.faults unit.now shelf.old shelf.new result }
 {
     let inputs = read_inputs(alloc, shelf, unit)?;
     let made = read_script(alloc, shelf, script, &inputs.calls)?;

@@ -1,6 +1,7 @@
 -- What is ready, and the line of a refusal, are what the definitions admit.
-use Rattle.std.proofs.Common.{◌≡◌, ◌∙◌, ℕ, Option, Some, None, List, [], ◌∷◌, ◌++◌, Result, Ok, Err, refl, sym, ap, subst, inl, inr}
-use Rattle.std.specs.Prelude.{◌⊎◌, IfOk, IfSome, IsErrOf, IsTrue, option_map}
+use Rattle.std.proofs.Common.{◌≡◌, ◌∙◌, ℕ, List, [], ◌∷◌, ◌++◌, Result, Ok, Err, refl, sym, ap, subst, inl, inr}
+use Rattle.std.specs.Prelude.{◌⊎◌, IfOk, IsErrOf, IsTrue, option_map}
+use Rattle.asked_service.specs.host_io.Agreeing.{ForFiles}
 use Rattle.asked_service.specs.host_io.Files.{Files}
 use Rattle.asked_service.specs.call_table.Table.{Table}
 use Rattle.asked_service.specs.site_table.Table.{Site}
@@ -98,22 +99,22 @@ ends_so table site (Ok before) (Err error) status text tells = inr tells.0
 ends_so table site (Ok before) (Ok after) status text tells = inl tells.0
 
 -- ---- the whole
-module _ (told : Option Files) (unit path : List ℕ) where
+module _ (agrees : Files → Type 0) (unit path : List ℕ) where
   -- each ending behind an effect is an answer
   answered : (status : ExitStatus) → (effect_laws unit path).may_end status → IsTrue (is_answer status)
   answered status (inl done) = subst (λ e. IsTrue (is_answer e)) (sym done) refl
   answered status (inr launch) = subst (λ e. IsTrue (is_answer e)) (sym launch) refl
 
-  pub together : GoTogether (laws_over told (effect_laws unit path))
-  together = go_together (effect_laws unit path) told answered
+  pub together : GoTogether (laws_over agrees (effect_laws unit path))
+  together = go_together (effect_laws unit path) agrees answered
 
 -- an input is refused
-pub stops_at_inputs : (P : Files → UnitInputs → Type 0) (told : Option Files) (unit path : List ℕ) (stop : CommandError)
-    → IfSome told (λ files. Prepares (P files) (input_refusals files unit) (Err stop))
-    → IsAdmitted (laws_over told (effect_laws unit path)) status_of text_of (Err stop)
-stops_at_inputs P told unit path stop said =
-    stop_is_admitted (effect_laws unit path) status_of text_of (λ (made : ReadyText). Unit {0}) told stop
-    (steps.stops_at_inputs P (λ files (made : ReadyText). Unit {0}) told unit
+pub stops_at_inputs : (P : Files → UnitInputs → Type 0) (agrees : Files → Type 0) (unit path : List ℕ) (stop : CommandError)
+    → ForFiles agrees (λ files. Prepares (P files) (input_refusals files unit) (Err stop))
+    → IsAdmitted (laws_over agrees (effect_laws unit path)) status_of text_of (Err stop)
+stops_at_inputs P agrees unit path stop said =
+    stop_is_admitted (effect_laws unit path) status_of text_of (λ (made : ReadyText). Unit {0}) agrees stop
+    (steps.stops_at_inputs P (λ files (made : ReadyText). Unit {0}) agrees unit
     (λ files. refusals_by (refusals_behind files unit path) (inputs_of files unit)) stop said)
 
 -- behind inputs that are read
@@ -130,33 +131,30 @@ refused_dropin unit inputs found (stop.Refused line) is = ap (λ one. first_refu
 refused_dropin unit inputs found stop.ReadFault is = tt
 refused_dropin unit inputs found stop.Memory is = tt
 
-pub stops_at_dropin : (told now : Option Files) (unit path : List ℕ) (inputs : UnitInputs) (stop : CommandError) → now ≡ told
-    → IfSome told (λ files. AreRead files unit inputs)
-    → IfSome now (λ files. IsAnswer {T = UnitText} (λ more. more) (Err stop) (dropin_in files path))
-    → IsAdmitted (laws_over told (effect_laws unit path)) status_of text_of (Err stop)
-stops_at_dropin told now unit path inputs stop same read said =
-    stop_is_admitted (effect_laws unit path) status_of text_of (λ (made : ReadyText). Unit {0}) told stop (at_dropin told same read)
+pub stops_at_dropin : (between agrees : Files → Type 0) (unit path : List ℕ) (inputs : UnitInputs) (stop : CommandError) → ForFiles agrees between
+    → ForFiles between (λ files. AreRead files unit inputs)
+    → ForFiles agrees (λ files. IsAnswer {T = UnitText} (λ more. more) (Err stop) (dropin_in files path))
+    → IsAdmitted (laws_over agrees (effect_laws unit path)) status_of text_of (Err stop)
+stops_at_dropin between agrees unit path inputs stop stays read said =
+    stop_is_admitted (effect_laws unit path) status_of text_of (λ (made : ReadyText). Unit {0}) agrees stop at_dropin
   where
-    at_dropin : (told : Option Files) → now ≡ told → IfSome told (λ files. AreRead files unit inputs)
-        → IfSome told (λ files. Prepares (λ (made : ReadyText). Unit {0}) (effect_refusals files unit path) (Err stop))
-    at_dropin None same read = tt
-    at_dropin (Some files) same read =
+    at_dropin : ForFiles agrees (λ files. Prepares (λ (made : ReadyText). Unit {0}) (effect_refusals files unit path) (Err stop))
+    at_dropin files agree =
         stops_as (λ (made : ReadyText). Unit {0}) stop (refusals_by_dropin unit (inputs_view inputs) (dropin_in files path))
-        (effect_refusals files unit path) (behind_inputs files unit path inputs read)
+        (effect_refusals files unit path) (behind_inputs files unit path inputs (read files (stays files agree)))
         (refused_dropin unit (inputs_view inputs) (dropin_in files path) stop
-        (subst (λ own. IfSome own (λ files. IsAnswer {T = UnitText} (λ more. more) (Err stop) (dropin_in files path))) same said))
+        (said files agree))
 
 -- behind a drop-in that was read
-module _ (told now : Option Files) (unit path : List ℕ) (inputs : UnitInputs) (more : UnitText) (same : now ≡ told)
-    (are : IfSome told (λ files. AreRead files unit inputs)) (said : IfSome now (λ files. IsAnswer (λ (more : UnitText). more) (Ok more) (dropin_in files path))) where
-  dropin_is : (files : Files) → told ≡ Some files → dropin_in files path ≡ Ok more
-  dropin_is files e = subst (λ own. IfSome own (λ files. IsAnswer (λ (more : UnitText). more) (Ok more) (dropin_in files path)))
-      (same ∙ e) said
+module _ (between agrees : Files → Type 0) (unit path : List ℕ) (inputs : UnitInputs) (more : UnitText) (stays : ForFiles agrees between)
+    (are : ForFiles between (λ files. AreRead files unit inputs)) (said : ForFiles agrees (λ files. IsAnswer (λ (more : UnitText). more) (Ok more) (dropin_in files path))) where
+  dropin_is : (files : Files) → agrees files → dropin_in files path ≡ Ok more
+  dropin_is files e = said files e
 
-  read_is : (files : Files) → told ≡ Some files → AreRead files unit inputs
-  read_is files e = subst (λ own. IfSome own (λ files. AreRead files unit inputs)) e are
+  read_is : (files : Files) → agrees files → AreRead files unit inputs
+  read_is files e = are files (stays files e)
 
-  behind_dropin : (files : Files) → told ≡ Some files → first_refusal (effect_refusals files unit path)
+  behind_dropin : (files : Files) → agrees files → first_refusal (effect_refusals files unit path)
       ≡ first_refusal (refusals_behind_dropin unit (inputs_view inputs) more)
   behind_dropin files e =
       behind_inputs files unit path inputs (read_is files e)
@@ -165,24 +163,22 @@ module _ (told now : Option Files) (unit path : List ℕ) (inputs : UnitInputs) 
   -- what is answered is admitted
   admitted : (result : Result ReadyText CommandError) → Prepares (λ made. TellsWith (inputs_view inputs) more (status_of made) (text_of made))
       (refusals_behind_dropin unit (inputs_view inputs) more) result
-      → IsAdmitted (laws_over told (effect_laws unit path)) status_of text_of result
+      → IsAdmitted (laws_over agrees (effect_laws unit path)) status_of text_of result
   admitted (Err stop) answers = stop_is_admitted (effect_laws unit path) status_of text_of
-      (λ made. TellsWith (inputs_view inputs) more (status_of made) (text_of made)) told stop (at_stop told refl)
+      (λ made. TellsWith (inputs_view inputs) more (status_of made) (text_of made)) agrees stop at_stop
     where
-      at_stop : (own : Option Files) → told ≡ own → IfSome own
+      at_stop : ForFiles agrees
           (λ files. Prepares (λ made. TellsWith (inputs_view inputs) more (status_of made) (text_of made))
           (effect_refusals files unit path) (Err stop))
-      at_stop None e = tt
-      at_stop (Some files) e = stops_as (λ made. TellsWith (inputs_view inputs) more (status_of made) (text_of made)) stop
+      at_stop files e = stops_as (λ made. TellsWith (inputs_view inputs) more (status_of made) (text_of made)) stop
           (refusals_behind_dropin unit (inputs_view inputs) more) (effect_refusals files unit path) (behind_dropin files e) answers
-  admitted (Ok made) answers = ready_is_admitted (effect_laws unit path) status_of text_of told made
+  admitted (Ok made) answers = ready_is_admitted (effect_laws unit path) status_of text_of agrees made
       (ends_so (inputs_view inputs).calls (inputs_view inputs).site answers.1.first answers.1.second (status_of made)
-      (text_of made) answers.1.tells) (printed told refl)
+      (text_of made) answers.1.tells) printed
     where
-      printed : (own : Option Files) → told ≡ own → IfSome own
+      printed : ForFiles agrees
           (λ files. AcceptsFiles (effect_laws unit path) files × PrintsEffect files unit path (status_of made) (text_of made))
-      printed None e = tt
-      printed (Some files) e = (
+      printed files e = (
         behind_dropin files e ∙ answers.0,
         record {
           inputs = inputs_view inputs;
@@ -196,7 +192,7 @@ module _ (told now : Option Files) (unit path : List ℕ) (inputs : UnitInputs) 
   -- also where the inputs are lent
   pub admitted_as : (own : Inputs) (result : Result ReadyText CommandError) → own ≡ inputs_view inputs
       → Prepares (λ made. TellsWith own more (status_of made) (text_of made)) (refusals_behind_dropin unit own more) result
-      → IsAdmitted (laws_over told (effect_laws unit path)) status_of text_of result
+      → IsAdmitted (laws_over agrees (effect_laws unit path)) status_of text_of result
   admitted_as own result is answers =
       admitted result (subst (λ these. Prepares (λ made. TellsWith these more (status_of made) (text_of made))
       (refusals_behind_dropin unit these more) result) is answers)

@@ -1,5 +1,6 @@
 //! The drop-in, with the lines of its refusals.
-ghost use Rattle.std.specs.Prelude.{◌≡◌, ◌∷◌, [], IfOk, IfSome, IsErrOf};
+ghost use Rattle.std.specs.Prelude.{◌≡◌, ◌∷◌, [], IfOk, IsErrOf};
+ghost use Rattle.asked_service.specs.host_io.Agreeing.{ForFiles};
 ghost use Rattle.asked_service.specs.host_io.Calls.{AsksExactly};
 ghost use Rattle.asked_service.specs.unit_inputs.command_answers.Asking.{course, input_file};
 ghost use Rattle.asked_service.specs.unit_inputs.command_answers.Refusals.{refused_line};
@@ -40,9 +41,9 @@ pub fn read_dropin<S: Shelf>(
     shelf: &mut S,
     path: &str,
 ) -> Result<UnitText, CommandError>
-    ensures reads_the_dropin { IfSome (S.told shelf.old) (λ files. IsAnswer (λ text. text) result (dropin_in files path.now)) }
+    ensures reads_the_dropin { ForFiles (S.agrees shelf.new) (λ files. IsAnswer (λ text. text) result (dropin_in files path.now)) }
     ensures asks_for_it { AsksExactly S.asks shelf.old shelf.new (input_file path.now ∷ []) (course result) }
-    ensures map_stays { S.told shelf.new ≡ S.told shelf.old }
+    ensures answers_stay { ForFiles (S.agrees shelf.new) (S.agrees shelf.old) }
     ensures fault_rose { HasReadCause (S.faults shelf.old) (S.faults shelf.new) result }
 {
     let bytes = read_input(alloc, shelf, path)?;

@@ -1,8 +1,8 @@
 -- What stops before the paths is the first refusal, and the unit starts behind its settings.
-use Rattle.std.proofs.Common.{◌≡◌, ◌∙◌, ℕ, Option, Some, None, List, Ok, Err, sym, subst}
-use Rattle.std.specs.Prelude.{IfSome}
+use Rattle.std.proofs.Common.{◌≡◌, ◌∙◌, ℕ, Some, None, List, Ok, Err, sym, subst}
 use Rattle.asked_service.specs.Asking.{IsAsked}
 use Rattle.asked_service.specs.declared.asking.Asked.{Asked}
+use Rattle.asked_service.specs.host_io.Agreeing.{ForFiles}
 use Rattle.asked_service.specs.host_io.Files.{Files}
 use Rattle.asked_service.specs.launcher.declared.error.LaunchError.{LaunchError}
 use Rattle.asked_service.specs.launcher.declared.launched.Launched.{Launched as Service}
@@ -22,13 +22,12 @@ use Rattle.judge_command.specs.Started.{IsStarted}
 use Rattle.judge_command.specs.declared.launching.Outcome.TheVariants as outcome
 
 -- an input or a setting is refused
-pub stops_before_paths : (told : Option Files) (unit : List ℕ) (why : CommandError)
-    → IfSome told (λ files. Prepares (IsPrepared files unit) (unit_refusals files unit) (Err why))
-    → IfSome told (λ files. Prepares (IsPrepared files unit) (plan_refusals files unit) (Err why))
-stops_before_paths None unit why said = tt
-stops_before_paths (Some files) unit why said =
+pub stops_before_paths : (agrees : Files → Type 0) (unit : List ℕ) (why : CommandError)
+    → ForFiles agrees (λ files. Prepares (IsPrepared files unit) (unit_refusals files unit) (Err why))
+    → ForFiles agrees (λ files. Prepares (IsPrepared files unit) (plan_refusals files unit) (Err why))
+stops_before_paths agrees unit why said files agree =
     stops_before (IsPrepared files unit) (IsPrepared files unit) why (unit_refusals files unit)
-    (refusals_by (refused_paths unit) (inputs_of files unit)) said
+    (refusals_by (refused_paths unit) (inputs_of files unit)) (said files agree)
 
 module _ (unit : List ℕ) (one : SettledUnit) where
   -- behind the settings the unit is refused as it starts

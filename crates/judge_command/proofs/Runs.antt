@@ -1,6 +1,7 @@
 -- A report that is prepared, started and printed runs by its laws.
-use Rattle.std.proofs.Common.{◌≡◌, ℕ, Option, Some, None, List, Result, Ok, Err, ◌∙◌, refl, sym, ap, subst, inl, inr}
-use Rattle.std.specs.Prelude.{◌⊎◌, IfSome, IsErrOf, IsTrue}
+use Rattle.std.proofs.Common.{◌≡◌, ℕ, List, Result, Ok, Err, ◌∙◌, refl, sym, ap, subst, inl, inr}
+use Rattle.std.specs.Prelude.{◌⊎◌, IsErrOf, IsTrue}
+use Rattle.asked_service.specs.host_io.Agreeing.{ForFiles}
 use Rattle.asked_service.specs.host_io.Files.{Files}
 use Rattle.asked_service.specs.unit_inputs.command_answers.ExitStatuses.{is_answer}
 use Rattle.asked_service.specs.unit_inputs.command_answers.Laws.{AcceptsFiles, GoTogether, laws_over}
@@ -35,14 +36,14 @@ use Rattle.judge_command.specs.declared.launching.Outcome.{Outcome}
 use Rattle.judge_command.specs.declared.launching.Outcome.TheVariants as outcome
 use Rattle.asked_service.specs.unit_inputs.declared.settling.SettledUnit.{SettledUnit}
 
-module _ (told : Option Files) (unit : List ℕ) where
+module _ (agrees : Files → Type 0) (unit : List ℕ) where
   -- each ending behind a report is an answer
   answered : (status : ExitStatus) → (judge_laws unit).may_end status → IsTrue (is_answer status)
   answered status (inl done) = subst (λ e. IsTrue (is_answer e)) (sym done) refl
   answered status (inr refused) = subst (λ e. IsTrue (is_answer e)) (sym refused) refl
 
-  pub together : GoTogether (laws_over told (judge_laws unit))
-  together = go_together (judge_laws unit) told answered
+  pub together : GoTogether (laws_over agrees (judge_laws unit))
+  together = go_together (judge_laws unit) agrees answered
 
 -- a launch is done or refused
 ends_so : (came : Outcome) → (status_of came ≡ Done) ⊎ (status_of came ≡ LaunchRefused)
@@ -72,16 +73,15 @@ module _ (answers : AnswersAreTrue) (folders : BlindFoldersAreNamed) where
   tells_it one (outcome.Refused error) started = (refl, refl)
 
   -- what is started prints what the files say
-  prints_it : (told : Option Files) (unit : List ℕ) (one : SettledUnit) (came : Outcome) → IsSettled one
-      → IfSome told (λ files. Prepares (IsPrepared files unit) (unit_refusals files unit) (Ok one))
+  prints_it : (agrees : Files → Type 0) (unit : List ℕ) (one : SettledUnit) (came : Outcome) → IsSettled one
+      → ForFiles agrees (λ files. Prepares (IsPrepared files unit) (unit_refusals files unit) (Ok one))
       → Prepares (IsStarted one) (start_refusals unit (inputs_in one)) (Ok came)
-      → IfSome told (λ files. AcceptsFiles (judge_laws unit) files × PrintsReport files unit (status_of came) (text_of unit one came))
-  prints_it None unit one came settled is started = tt
-  prints_it (Some files) unit one came settled is started = (
-    behind_settings unit one files settled is.0 is.1 ∙ started.0,
+      → ForFiles agrees (λ files. AcceptsFiles (judge_laws unit) files × PrintsReport files unit (status_of came) (text_of unit one came))
+  prints_it agrees unit one came settled is started files agree = (
+    behind_settings unit one files settled (is files agree).0 (is files agree).1 ∙ started.0,
     record {
       inputs = inputs_in one;
-      inputs_are = is.1;
+      inputs_are = (is files agree).1;
       launch = launch_by came;
       starts = started.1.0.0;
       told = told_text came;
@@ -92,33 +92,32 @@ module _ (answers : AnswersAreTrue) (folders : BlindFoldersAreNamed) where
   )
 
   -- a path is refused
-  stops_it : (told : Option Files) (unit : List ℕ) (one : SettledUnit) (why : CommandError) → IsSettled one
-      → IfSome told (λ files. Prepares (IsPrepared files unit) (unit_refusals files unit) (Ok one))
+  stops_it : (agrees : Files → Type 0) (unit : List ℕ) (one : SettledUnit) (why : CommandError) → IsSettled one
+      → ForFiles agrees (λ files. Prepares (IsPrepared files unit) (unit_refusals files unit) (Ok one))
       → Prepares (IsStarted one) (start_refusals unit (inputs_in one)) (Err why)
-      → IfSome told (λ files. Prepares (IsStarted one) (plan_refusals files unit) (Err why))
-  stops_it None unit one why settled is started = tt
-  stops_it (Some files) unit one why settled is started =
+      → ForFiles agrees (λ files. Prepares (IsStarted one) (plan_refusals files unit) (Err why))
+  stops_it agrees unit one why settled is started files agree =
       stops_as (IsStarted one) why (start_refusals unit (inputs_in one)) (plan_refusals files unit)
-      (behind_settings unit one files settled is.0 is.1) started
+      (behind_settings unit one files settled (is files agree).0 (is files agree).1) started
 
   -- a report that is prepared
-  pub ran_prepared : (told : Option Files) (unit : List ℕ) (outside : Outside) (ended : ExitStatus) (one : SettledUnit) → IsSettled one
-      → IfSome told (λ files. Prepares (IsPrepared files unit) (unit_refusals files unit) (Ok one))
+  pub ran_prepared : (agrees : Files → Type 0) (unit : List ℕ) (outside : Outside) (ended : ExitStatus) (one : SettledUnit) → IsSettled one
+      → ForFiles agrees (λ files. Prepares (IsPrepared files unit) (unit_refusals files unit) (Ok one))
       → HasReadCause outside.shelf_before outside.shelf_after (Ok one) → FinishesStarted unit one ended outside.sink
-      → IsRun (laws_over told (judge_laws unit)) ended outside
-  ran_prepared told unit outside ended one settled is cause finished = by finished.result finished.starts finished.reads_nothing finished.finishes where
+      → IsRun (laws_over agrees (judge_laws unit)) ended outside
+  ran_prepared agrees unit outside ended one settled is cause finished = by finished.result finished.starts finished.reads_nothing finished.finishes where
     still : outside.shelf_after ≡ outside.shelf_before
     still = cause.no_other_fault
 
     by : (result : Result Outcome CommandError) → Prepares (IsStarted one) (start_refusals unit (inputs_in one)) result
         → (IsErrOf result stop.ReadFault → ⊥) → Finishes status_of (text_of unit one) result ended outside.sink
-        → IsRun (laws_over told (judge_laws unit)) ended outside
+        → IsRun (laws_over agrees (judge_laws unit)) ended outside
     by (Ok came) starts nothing finishes =
-        ran (laws_over told (judge_laws unit)) (together told unit) outside status_of (text_of unit one) (Ok came) ended
-        (ready_is_admitted (judge_laws unit) status_of (text_of unit one) told came (ends_so came)
-        (prints_it told unit one came settled is starts))
+        ran (laws_over agrees (judge_laws unit)) (together agrees unit) outside status_of (text_of unit one) (Ok came) ended
+        (ready_is_admitted (judge_laws unit) status_of (text_of unit one) agrees came (ends_so came)
+        (prints_it agrees unit one came settled is starts))
         (λ e. cc) (quiet outside.shelf_before outside.shelf_after (Ok came) still nothing) finishes
     by (Err why) starts nothing finishes =
-        ran_stopped (judge_laws unit) (λ files. IsStarted one) told (together told unit) outside ended why
-        (stops_it told unit one why settled is starts) (λ e. absurd (nothing e))
+        ran_stopped (judge_laws unit) (λ files. IsStarted one) agrees (together agrees unit) outside ended why
+        (stops_it agrees unit one why settled is starts) (λ e. absurd (nothing e))
         (quiet outside.shelf_before outside.shelf_after (Err why) still nothing) finishes

@@ -1,5 +1,6 @@
 //! The command `judge` and the name of a unit.
 ghost use Rattle.std.specs.Prelude.{◌≡◌, IsSome};
+ghost use Rattle.asked_service.specs.host_io.Agreeing.{ForFiles};
 ghost use Rattle.asked_service.specs.unit_names.Cutting.{name_of};
 ghost use Rattle.asked_service.specs.unit_inputs.Asking.{AsksInOrder, input_asks};
 ghost use Rattle.asked_service.specs.unit_inputs.command_answers.Asking.{course_of_run};
@@ -42,11 +43,11 @@ pub fn answer<S: Shelf, K: Sink>(
     unit: &str,
     out: &mut K,
 ) -> ExitStatus
-    ensures runs { IsRun (laws_over (S.told shelf.old) (judge_laws unit.now)) result
+    ensures runs { IsRun (laws_over (S.agrees shelf.new) (judge_laws unit.now)) result
         (record { shelf_before = S.faults shelf.old; shelf_after = S.faults shelf.new; sink = output_of K.faults K.taken K.puts out.old out.new }) }
-    ensures asks_in_order { AsksInOrder S.asks (S.told shelf.old) (λ files. input_asks files unit.now) shelf.old shelf.new (course_of_run result) }
+    ensures asks_in_order { AsksInOrder S.asks (S.agrees shelf.new) (λ files. input_asks files unit.now) shelf.old shelf.new (course_of_run result) }
     ensures unread_without_a_name { (IsSome (name_of unit.now) → ⊥) → shelf.new ≡ shelf.old }
-    ensures map_stays { S.told shelf.new ≡ S.told shelf.old }
+    ensures answers_stay { ForFiles (S.agrees shelf.new) (S.agrees shelf.old) }
 {
     // Why the answers are true.
     truths();

@@ -1,5 +1,6 @@
 //! What `judge` reads, and what it takes from that.
-ghost use Rattle.std.specs.Prelude.{IfOk, IfSome};
+ghost use Rattle.std.specs.Prelude.{IfOk};
+ghost use Rattle.asked_service.specs.host_io.Agreeing.{ForFiles};
 ghost use Rattle.asked_service.specs.unit_inputs.command_answers.Asking.{course};
 ghost use Rattle.asked_service.specs.unit_inputs.command_answers.CommandErrors.{Prepares};
 ghost use Rattle.asked_service.specs.unit_inputs.Asking.{AsksInOrder, input_asks};
@@ -18,10 +19,10 @@ pub fn prepare<S: Shelf>(
     shelf: &mut S,
     unit: &str,
 ) -> Result<SettledUnit, CommandError>
-    ensures prepares { IfSome (S.told shelf.old) (λ files. Prepares (IsPrepared files unit.now) (unit_refusals files unit.now) result) }
+    ensures prepares { ForFiles (S.agrees shelf.new) (λ files. Prepares (IsPrepared files unit.now) (unit_refusals files unit.now) result) }
     ensures is_settled { IfOk result IsSettled }
-    ensures asks_in_order { AsksInOrder S.asks (S.told shelf.old) (λ files. input_asks files unit.now) shelf.old shelf.new (course result) }
-    ensures reads_for_the_unit { ReadsFor S.told S.faults unit.now shelf.old shelf.new result }
+    ensures asks_in_order { AsksInOrder S.asks (S.agrees shelf.new) (λ files. input_asks files unit.now) shelf.old shelf.new (course result) }
+    ensures reads_for_the_unit { ReadsFor S.agrees S.faults unit.now shelf.old shelf.new result }
 {
     let inputs = read_inputs(alloc, shelf, unit)?;
     settle(alloc, unit, inputs)

@@ -1,5 +1,5 @@
 -- The calls of a run, by how it ended behind what was read.
-use Rattle.std.proofs.Common.{ℕ, List, Result, Ok, Err, Option, refl}
+use Rattle.std.proofs.Common.{ℕ, List, Result, Ok, Err, refl}
 use Rattle.std.specs.Prelude.{IsErrOf, IsTrue}
 use Rattle.asked_service.specs.host_io.Calls.{Ask, ShelfCall, Whole}
 use Rattle.asked_service.specs.host_io.Files.{Files}
@@ -23,15 +23,15 @@ told_whole : (launch : Result Service LaunchError) → IsTrue (is_whole (status_
 told_whole (Ok service) = refl
 told_whole (Err error) = refl
 
-module _ {S : Type 0} (asks : S → ShelfCall → S → Type 0) (told : Option Files) (wanted : Files → List Ask) (a b : S) where
+module _ {S : Type 0} (asks : S → ShelfCall → S → Type 0) (agrees : Files → Type 0) (wanted : Files → List Ask) (a b : S) where
   -- what is prepared is launched and printed, or stops
   pub order_started : (unit : List ℕ) (prepared : Prepared) (ended : ExitStatus) (output : Output)
-      → FinishesStarted unit prepared ended output → AsksInOrder asks told wanted a b Whole
-      → AsksInOrder asks told wanted a b (course_of_run ended)
+      → FinishesStarted unit prepared ended output → AsksInOrder asks agrees wanted a b Whole
+      → AsksInOrder asks agrees wanted a b (course_of_run ended)
   order_started unit prepared ended output is made = by is.result is.reads_nothing is.finishes where
     by : (result : Result Replay CommandError) → (IsErrOf result stop.ReadFault → ⊥) → Finishes status_of text_of result ended output
-        → AsksInOrder asks told wanted a b (course_of_run ended)
+        → AsksInOrder asks agrees wanted a b (course_of_run ended)
     by (Ok replay) quiet finishes =
-        order_printed asks told wanted a b (status_of replay) (text_of replay) ended output (told_whole replay.launch) finishes made
+        order_printed asks agrees wanted a b (status_of replay) (text_of replay) ended output (told_whole replay.launch) finishes made
     by (Err why) quiet finishes =
-        order_stop asks told wanted a b Replay why ended output finishes (order_quiet asks told wanted a b (Err why) quiet made)
+        order_stop asks agrees wanted a b Replay why ended output finishes (order_quiet asks agrees wanted a b (Err why) quiet made)

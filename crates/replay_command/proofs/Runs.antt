@@ -1,6 +1,7 @@
 -- A replay that is prepared, started and printed runs by its laws.
-use Rattle.std.proofs.Common.{◌≡◌, ◌∙◌, ℕ, Option, Some, None, List, Result, Ok, Err, refl, sym, ap, subst, inl, inr}
-use Rattle.std.specs.Prelude.{◌⊎◌, IfSome, IsErrOf, IsTrue}
+use Rattle.std.proofs.Common.{◌≡◌, ◌∙◌, ℕ, List, Result, Ok, Err, refl, sym, ap, subst, inl, inr}
+use Rattle.std.specs.Prelude.{◌⊎◌, IsErrOf, IsTrue}
+use Rattle.asked_service.specs.host_io.Agreeing.{ForFiles}
 use Rattle.asked_service.specs.host_io.Files.{Files}
 use Rattle.asked_service.specs.kernel_model.kernel_calls.Calls.{AreCalls}
 use Rattle.asked_service.specs.kernel_model.declared.kernel_calls.call.Call.{Call}
@@ -32,14 +33,14 @@ use Rattle.replay_command.specs.Texts.{status_behind, replay_text}
 use Rattle.replay_command.specs.declared.preparing.Prepared.{Prepared}
 use Rattle.replay_command.specs.declared.ready.Replay.{Replay}
 
-module _ (told : Option Files) (unit path : List ℕ) where
+module _ (agrees : Files → Type 0) (unit path : List ℕ) where
   -- each ending behind a replay is an answer
   answered : (status : ExitStatus) → (replay_laws unit path).may_end status → IsTrue (is_answer status)
   answered status (inl done) = subst (λ e. IsTrue (is_answer e)) (sym done) refl
   answered status (inr refused) = subst (λ e. IsTrue (is_answer e)) (sym refused) refl
 
-  pub together : GoTogether (laws_over told (replay_laws unit path))
-  together = go_together (replay_laws unit path) told answered
+  pub together : GoTogether (laws_over agrees (replay_laws unit path))
+  together = go_together (replay_laws unit path) agrees answered
 
 -- a launch is done or refused
 ends_so : (launch : Result Service LaunchError) → (status_behind launch ≡ Done) ⊎ (status_behind launch ≡ LaunchRefused)
@@ -55,24 +56,23 @@ replies_go_on inputs script (Ok service) are starts =
     ((above codes both.0.base, both.0.other, both.0.same_replies script are), both.1)
 replies_go_on inputs script (Err error) are starts = tt
 
-module _ (told : Option Files) (unit path : List ℕ) (prepared : Prepared) (can : CanBeStarted prepared)
-    (is : IfSome told (λ files. Prepares (IsPrepared files unit path) (settled_refusals files unit path) (Ok prepared))) where
+module _ (agrees : Files → Type 0) (unit path : List ℕ) (prepared : Prepared) (can : CanBeStarted prepared)
+    (is : ForFiles agrees (λ files. Prepares (IsPrepared files unit path) (settled_refusals files unit path) (Ok prepared))) where
   -- what is started prints what the files say
   prints_it : (replay : Replay) → Prepares (IsStarted prepared) (start_refusals unit (inputs_in prepared.unit)) (Ok replay)
-      → IfSome told (λ files. AcceptsFiles (replay_laws unit path) files × PrintsReplay files unit path (status_of replay)
+      → ForFiles agrees (λ files. AcceptsFiles (replay_laws unit path) files × PrintsReplay files unit path (status_of replay)
       (text_of replay))
-  prints_it replay started = by told is where
-    by : (told : Option Files) → IfSome told (λ files. Prepares (IsPrepared files unit path) (settled_refusals files unit path) (Ok prepared))
-        → IfSome told (λ files. AcceptsFiles (replay_laws unit path) files × PrintsReplay files unit path (status_of replay)
+  prints_it replay started = by agrees is where
+    by : (agrees : Files → Type 0) → ForFiles agrees (λ files. Prepares (IsPrepared files unit path) (settled_refusals files unit path) (Ok prepared))
+        → ForFiles agrees (λ files. AcceptsFiles (replay_laws unit path) files × PrintsReplay files unit path (status_of replay)
         (text_of replay))
-    by None is = tt
-    by (Some files) is = (
-      behind_settings files unit path prepared.unit can.settled is.0 is.1.inputs ∙ started.0,
+    by agrees is files agree = (
+      behind_settings files unit path prepared.unit can.settled (is files agree).0 (is files agree).1.inputs ∙ started.0,
       record {
         inputs = inputs_in prepared.unit;
-        inputs_are = is.1.inputs;
+        inputs_are = (is files agree).1.inputs;
         script = prepared.script;
-        script_is = is.1.script;
+        script_is = (is files agree).1.script;
         launch = replay.launch;
         starts = started.1.starts.0;
         replies_alike = replies_go_on (inputs_in prepared.unit) prepared.script replay.launch can.calls started.1.starts.0;
@@ -85,29 +85,28 @@ module _ (told : Option Files) (unit path : List ℕ) (prepared : Prepared) (can
 
   -- a path is refused
   stops_it : (why : CommandError) → Prepares (IsStarted prepared) (start_refusals unit (inputs_in prepared.unit)) (Err why)
-      → IfSome told (λ files. Prepares (IsStarted prepared) (replay_refusals files unit path) (Err why))
-  stops_it why started = by told is where
-    by : (told : Option Files) → IfSome told (λ files. Prepares (IsPrepared files unit path) (settled_refusals files unit path) (Ok prepared))
-        → IfSome told (λ files. Prepares (IsStarted prepared) (replay_refusals files unit path) (Err why))
-    by None is = tt
-    by (Some files) is =
+      → ForFiles agrees (λ files. Prepares (IsStarted prepared) (replay_refusals files unit path) (Err why))
+  stops_it why started = by agrees is where
+    by : (agrees : Files → Type 0) → ForFiles agrees (λ files. Prepares (IsPrepared files unit path) (settled_refusals files unit path) (Ok prepared))
+        → ForFiles agrees (λ files. Prepares (IsStarted prepared) (replay_refusals files unit path) (Err why))
+    by agrees is files agree =
         stops_as (IsStarted prepared) why (start_refusals unit (inputs_in prepared.unit)) (replay_refusals files unit path)
-        (behind_settings files unit path prepared.unit can.settled is.0 is.1.inputs) started
+        (behind_settings files unit path prepared.unit can.settled (is files agree).0 (is files agree).1.inputs) started
 
   -- a replay that is prepared
   pub ran_prepared : (outside : Outside) (ended : ExitStatus) → HasReadCause outside.shelf_before outside.shelf_after (Ok prepared)
-      → FinishesStarted unit prepared ended outside.sink → IsRun (laws_over told (replay_laws unit path)) ended outside
+      → FinishesStarted unit prepared ended outside.sink → IsRun (laws_over agrees (replay_laws unit path)) ended outside
   ran_prepared outside ended cause finished = by finished.result finished.starts finished.reads_nothing finished.finishes where
     still : outside.shelf_after ≡ outside.shelf_before
     still = cause.no_other_fault
 
     by : (result : Result Replay CommandError) → Prepares (IsStarted prepared) (start_refusals unit (inputs_in prepared.unit)) result
         → (IsErrOf result stop.ReadFault → ⊥) → Finishes status_of text_of result ended outside.sink
-        → IsRun (laws_over told (replay_laws unit path)) ended outside
+        → IsRun (laws_over agrees (replay_laws unit path)) ended outside
     by (Ok replay) starts nothing finishes =
-        ran (laws_over told (replay_laws unit path)) (together told unit path) outside status_of text_of (Ok replay) ended
-        (ready_is_admitted (replay_laws unit path) status_of text_of told replay (ends_so replay.launch) (prints_it replay starts))
+        ran (laws_over agrees (replay_laws unit path)) (together agrees unit path) outside status_of text_of (Ok replay) ended
+        (ready_is_admitted (replay_laws unit path) status_of text_of agrees replay (ends_so replay.launch) (prints_it replay starts))
         (λ e. cc) (quiet outside.shelf_before outside.shelf_after (Ok replay) still nothing) finishes
     by (Err why) starts nothing finishes =
-        ran_stopped (replay_laws unit path) (λ files. IsStarted prepared) told (together told unit path) outside ended why
+        ran_stopped (replay_laws unit path) (λ files. IsStarted prepared) agrees (together agrees unit path) outside ended why
         (stops_it why starts) (λ e. absurd (nothing e)) (quiet outside.shelf_before outside.shelf_after (Err why) still nothing) finishes

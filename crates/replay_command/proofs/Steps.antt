@@ -1,7 +1,8 @@
 -- What is refused behind the inputs, step by step.
-use Rattle.std.proofs.Common.{◌≡◌, ◌∙◌, ℕ, Option, Some, None, List, Ok, Err, sym, ap, subst}
-use Rattle.std.specs.Prelude.{All, IfSome}
+use Rattle.std.proofs.Common.{◌≡◌, ◌∙◌, ℕ, Some, None, List, Ok, Err, sym, ap, subst}
+use Rattle.std.specs.Prelude.{All}
 use Rattle.std.proofs.lemmas.List.Elements.{recursion_from_All}
+use Rattle.asked_service.specs.host_io.Agreeing.{ForFiles}
 use Rattle.asked_service.specs.host_io.Files.{Files}
 use Rattle.asked_service.specs.call_table.Table.{Table}
 use Rattle.asked_service.specs.kernel_model.kernel_calls.Calls.{IsCall}
@@ -24,11 +25,11 @@ use Rattle.replay_command.specs.declared.preparing.Prepared.{Prepared}
 use Rattle.asked_service.specs.Scripts.{script_in}
 
 -- an input is refused
-pub stops_at_inputs : (P : UnitInputs → Type 0) (told : Option Files) (unit path : List ℕ) (stop : CommandError)
-    → IfSome told (λ files. Prepares P (input_refusals files unit) (Err stop))
-    → IfSome told (λ files. Prepares (IsPrepared files unit path) (settled_refusals files unit path) (Err stop))
-stops_at_inputs P told unit path stop said =
-    steps.stops_at_inputs (λ files. P) (λ files. IsPrepared files unit path) told unit
+pub stops_at_inputs : (P : UnitInputs → Type 0) (agrees : Files → Type 0) (unit path : List ℕ) (stop : CommandError)
+    → ForFiles agrees (λ files. Prepares P (input_refusals files unit) (Err stop))
+    → ForFiles agrees (λ files. Prepares (IsPrepared files unit path) (settled_refusals files unit path) (Err stop))
+stops_at_inputs P agrees unit path stop said =
+    steps.stops_at_inputs (λ files. P) (λ files. IsPrepared files unit path) agrees unit
     (λ files. refusals_by (settled_behind files unit path) (inputs_of files unit)) stop said
 
 -- behind inputs that are read
@@ -44,59 +45,51 @@ module _ (files : Files) (unit path : List ℕ) (inputs : UnitInputs) (read : Ar
       (refusals_of unit (inputs_view inputs)) is
 
 -- the script is refused
-pub stops_at_script : (told now : Option Files) (unit path : List ℕ) (inputs : UnitInputs) (table : Table) (stop : CommandError) → now ≡ told
-    → table ≡ (inputs_view inputs).calls
-    → IfSome told (λ files. AreRead files unit inputs)
-    → IfSome now (λ files. IsAnswer {T = List Call} (λ script. script) (Err stop) (script_in files path table))
-    → IfSome told (λ files. Prepares (IsPrepared files unit path) (settled_refusals files unit path) (Err stop))
-stops_at_script None now unit path inputs table stop same by read said = tt
-stops_at_script (Some files) now unit path inputs table stop same by read said =
+pub stops_at_script : (between agrees : Files → Type 0) (unit path : List ℕ) (inputs : UnitInputs) (table : Table) (stop : CommandError)
+    → ForFiles agrees between → table ≡ (inputs_view inputs).calls
+    → ForFiles between (λ files. AreRead files unit inputs)
+    → ForFiles agrees (λ files. IsAnswer {T = List Call} (λ script. script) (Err stop) (script_in files path table))
+    → ForFiles agrees (λ files. Prepares (IsPrepared files unit path) (settled_refusals files unit path) (Err stop))
+stops_at_script between agrees unit path inputs table stop stays by read said files agree =
     let refused : IsAnswer {T = List Call} (λ script. script) (Err stop) (script_in files path (inputs_view inputs).calls) =
-    subst (λ own. IsAnswer {T = List Call} (λ script. script) (Err stop) (script_in files path own)) by
-    (subst (λ own. IfSome own (λ files. IsAnswer {T = List Call} (λ script. script) (Err stop) (script_in files path table))) same said) in
+    subst (λ own. IsAnswer {T = List Call} (λ script. script) (Err stop) (script_in files path own)) by (said files agree) in
     let rest = refusals_of unit (inputs_view inputs) in
     stops_as (IsPrepared files unit path) stop (settled_behind files unit path (inputs_view inputs)) (settled_refusals files unit path)
-    (behind_inputs files unit path inputs read)
+    (behind_inputs files unit path inputs (read files (stays files agree)))
     (stops (λ (script : List Call). script) (IsPrepared files unit path)
     (script_in files path (inputs_view inputs).calls) stop rest refused)
 
 -- the script that was read
-abbrev pub IsScript : Option Files → List ℕ → UnitInputs → List Call → Type 0
-IsScript told path inputs script = IfSome told (λ files. script_in files path (inputs_view inputs).calls ≡ Ok script)
+abbrev pub IsScript : (Files → Type 0) → List ℕ → UnitInputs → List Call → Type 0
+IsScript agrees path inputs script = ForFiles agrees (λ files. script_in files path (inputs_view inputs).calls ≡ Ok script)
 
-pub script_is : (told now : Option Files) (path : List ℕ) (inputs : UnitInputs) (table : Table) (script : List Call) → now ≡ told
-    → table ≡ (inputs_view inputs).calls
-    → IfSome now (λ files. IsAnswer (λ (script : List Call). script) (Ok script) (script_in files path table))
-    → IsScript told path inputs script
-script_is None now path inputs table script same by said = tt
-script_is (Some files) now path inputs table script same by said =
-    subst (λ own. script_in files path own ≡ Ok script) by
-    (subst (λ own. IfSome own (λ files. IsAnswer (λ (script : List Call). script) (Ok script) (script_in files path table))) same said)
+pub script_is : (agrees : Files → Type 0) (path : List ℕ) (inputs : UnitInputs) (table : Table) (script : List Call) → table ≡ (inputs_view inputs).calls
+    → ForFiles agrees (λ files. IsAnswer (λ (script : List Call). script) (Ok script) (script_in files path table))
+    → IsScript agrees path inputs script
+script_is agrees path inputs table script by said files agree = subst (λ own. script_in files path own ≡ Ok script) by (said files agree)
 
 -- a setting is refused
-pub stops_at_settings : (P : SettledUnit → Type 0) (told : Option Files) (unit path : List ℕ) (inputs : UnitInputs) (script : List Call)
+pub stops_at_settings : (P : SettledUnit → Type 0) (agrees : Files → Type 0) (unit path : List ℕ) (inputs : UnitInputs) (script : List Call)
     (stop : CommandError)
-    → IfSome told (λ files. AreRead files unit inputs) → IsScript told path inputs script
+    → ForFiles agrees (λ files. AreRead files unit inputs) → IsScript agrees path inputs script
     → Prepares P (refusals_of unit (inputs_view inputs)) (Err stop)
-    → IfSome told (λ files. Prepares (IsPrepared files unit path) (settled_refusals files unit path) (Err stop))
-stops_at_settings P None unit path inputs script stop read is said = tt
-stops_at_settings P (Some files) unit path inputs script stop read is said =
+    → ForFiles agrees (λ files. Prepares (IsPrepared files unit path) (settled_refusals files unit path) (Err stop))
+stops_at_settings P agrees unit path inputs script stop read is said files agree =
     stops_as (IsPrepared files unit path) stop (refusals_of unit (inputs_view inputs)) (settled_refusals files unit path)
-    (behind_script files unit path inputs read script is)
+    (behind_script files unit path inputs (read files agree) script (is files agree))
     (any_stop P (IsPrepared files unit path) (refusals_of unit (inputs_view inputs)) stop said)
 
 -- the unit is settled
 module _ (unit path : List ℕ) (inputs : UnitInputs) (script : List Call) (one : SettledUnit)
     (settles : Prepares (λ (one : SettledUnit). (one.inputs ≡ inputs) × AreSettled (inputs_view inputs) one.settings.value) (refusals_of unit (inputs_view inputs)) (Ok one)) where
-  pub is_prepared : (told : Option Files) → IfSome told (λ files. AreRead files unit inputs) → IsScript told path inputs script
-      → IfSome told (λ files. Prepares (IsPrepared files unit path) (settled_refusals files unit path)
+  pub is_prepared : (agrees : Files → Type 0) → ForFiles agrees (λ files. AreRead files unit inputs) → IsScript agrees path inputs script
+      → ForFiles agrees (λ files. Prepares (IsPrepared files unit path) (settled_refusals files unit path)
       (Ok (record { unit = one; script = script })))
-  is_prepared None read is = tt
-  is_prepared (Some files) read is = (
-    behind_script files unit path inputs read script is ∙ settles.0,
+  is_prepared agrees read is files agree = (
+    behind_script files unit path inputs (read files agree) script (is files agree) ∙ settles.0,
     record {
-      inputs = read.1 ∙ ap (λ own. Some (inputs_view own)) (sym settles.1.0);
-      script = subst (λ own. script_in files path (inputs_view own).calls ≡ Ok script) (sym settles.1.0) is;
+      inputs = (read files agree).1 ∙ ap (λ own. Some (inputs_view own)) (sym settles.1.0);
+      script = subst (λ own. script_in files path (inputs_view own).calls ≡ Ok script) (sym settles.1.0) (is files agree);
     },
   )
 
@@ -108,13 +101,12 @@ module _ (unit path : List ℕ) (inputs : UnitInputs) (script : List Call) (one 
   }
 
 -- the paths are refused last
-pub stops_before_paths : (told : Option Files) (unit path : List ℕ) (why : CommandError)
-    → IfSome told (λ files. Prepares (IsPrepared files unit path) (settled_refusals files unit path) (Err why))
-    → IfSome told (λ files. Prepares (IsPrepared files unit path) (replay_refusals files unit path) (Err why))
-stops_before_paths None unit path why said = tt
-stops_before_paths (Some files) unit path why said =
+pub stops_before_paths : (agrees : Files → Type 0) (unit path : List ℕ) (why : CommandError)
+    → ForFiles agrees (λ files. Prepares (IsPrepared files unit path) (settled_refusals files unit path) (Err why))
+    → ForFiles agrees (λ files. Prepares (IsPrepared files unit path) (replay_refusals files unit path) (Err why))
+stops_before_paths agrees unit path why said files agree =
     stops_before (IsPrepared files unit path) (IsPrepared files unit path) why (settled_refusals files unit path)
-    (refusals_by (refused_paths unit) (inputs_of files unit)) said
+    (refusals_by (refused_paths unit) (inputs_of files unit)) (said files agree)
 
 -- behind the settings the unit is refused as it starts
 pub behind_settings : (files : Files) (unit path : List ℕ) (one : SettledUnit) → IsSettled one

@@ -1,5 +1,6 @@
 //! What `replay` reads, and what it takes from that.
-ghost use Rattle.std.specs.Prelude.{All, IfOk, IfSome};
+ghost use Rattle.std.specs.Prelude.{All, IfOk};
+ghost use Rattle.asked_service.specs.host_io.Agreeing.{ForFiles};
 ghost use Rattle.asked_service.specs.unit_inputs.command_answers.Asking.{course};
 ghost use Rattle.asked_service.specs.unit_inputs.command_answers.CommandErrors.{Prepares};
 ghost use Rattle.asked_service.specs.kernel_model.kernel_calls.Calls.{IsCall};
@@ -38,10 +39,10 @@ pub fn prepare<S: Shelf>(
     unit: &str,
     script: &str,
 ) -> Result<Prepared, CommandError>
-    ensures prepares { IfSome (S.told shelf.old) (λ files. Prepares (IsPrepared files unit.now script.now) (settled_refusals files unit.now script.now) result) }
+    ensures prepares { ForFiles (S.agrees shelf.new) (λ files. Prepares (IsPrepared files unit.now script.now) (settled_refusals files unit.now script.now) result) }
     ensures can_be_started { IfOk result CanBeStarted }
-    ensures asks_in_order { AsksInOrder S.asks (S.told shelf.old) (λ files. asks_with_file files unit.now script.now) shelf.old shelf.new (course result) }
-    ensures reads_for_the_unit { ReadsFor S.told S.faults unit.now shelf.old shelf.new result }
+    ensures asks_in_order { AsksInOrder S.asks (S.agrees shelf.new) (λ files. asks_with_file files unit.now script.now) shelf.old shelf.new (course result) }
+    ensures reads_for_the_unit { ReadsFor S.agrees S.faults unit.now shelf.old shelf.new result }
 {
     let inputs = read_inputs(alloc, shelf, unit)?;
     let made = read_script(alloc, shelf, script, &inputs.calls)?;

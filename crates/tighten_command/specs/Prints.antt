@@ -1,7 +1,7 @@
 -- What `tighten` prints, by the files.
-use Rattle.std.specs.Prelude.{◌≡◌, ◌⊎◌, ℕ, IsSome, List, Option, Some, None, Ok, Err}
+use Rattle.std.specs.Prelude.{◌≡◌, ◌⊎◌, ℕ, IsSome, List, Some, Ok, Err}
 use Rattle.asked_service.specs.host_io.Files.{Files}
-use Rattle.asked_service.specs.unit_inputs.command_answers.Laws.{Laws}
+use Rattle.asked_service.specs.unit_inputs.command_answers.Laws.{Laws, LawsByFiles, over_files}
 use Rattle.asked_service.specs.unit_inputs.command_answers.CommandErrors.{first_refusal}
 use Rattle.asked_service.specs.unit_inputs.declared.command_answers.exit_status.ExitStatus.{ExitStatus}
 use Rattle.asked_service.specs.unit_inputs.declared.command_answers.exit_status.ExitStatus.TheVariants.{Done, LaunchRefused, Refused}
@@ -27,28 +27,20 @@ pub data Admits (files : Files) (unit path : List ℕ) (wishes : Wishes) : ExitS
       → (status : ExitStatus) (text : List ℕ) → TellsTight unit (tried_with inputs.unit inputs.calls inputs.site keep wishes) status text
       → Admits files unit path wishes status text
 
--- where the files are not told, only the endings are known
-abbrev pub MayEndUntold : ExitStatus → Type 0
-MayEndUntold status = (status ≡ Refused) ⊎ ((status ≡ Done) ⊎ (status ≡ LaunchRefused))
+-- the statuses of the command, whatever the files are
+abbrev pub MayBe : ExitStatus → Type 0
+MayBe status = (status ≡ Refused) ⊎ ((status ≡ Done) ⊎ (status ≡ LaunchRefused))
 
-abbrev pub admits_over : Option Files → List ℕ → List ℕ → Wishes → ExitStatus → List ℕ → Type 0
-admits_over None unit path wishes status text = MayEndUntold status
-admits_over (Some files) unit path wishes status text = Admits files unit path wishes status text
-
--- a run may end like this if and only if a text with this ending is admitted
-abbrev pub may_end_over : Option Files → List ℕ → List ℕ → Wishes → ExitStatus → Type 0
-may_end_over None unit path wishes status = MayEndUntold status
-may_end_over (Some files) unit path wishes status = (text : List ℕ) × Admits files unit path wishes status text
-
--- nothing is refused, whatever a wish may answer
-abbrev pub accepts_over : Option Files → List ℕ → List ℕ → Wishes → Type 0
-accepts_over None unit path wishes = ⊥
-accepts_over (Some files) unit path wishes = (line : List ℕ) → Admits files unit path wishes Refused line → ⊥
-
-abbrev pub tighten_laws : Option Files → List ℕ → List ℕ → Wishes → Laws
-tighten_laws told unit path wishes = record {
-  admits = admits_over told unit path wishes;
-  may_end = may_end_over told unit path wishes;
-  accepts = accepts_over told unit path wishes;
+-- a run may end like this if and only if a text with this ending is admitted, and everything is accepted if nothing is refused,
+-- whatever a wish may answer
+abbrev pub tighten_by_files : List ℕ → List ℕ → Wishes → LawsByFiles
+tighten_by_files unit path wishes = record {
+  may_be = MayBe;
+  admits = λ files status text. Admits files unit path wishes status text;
+  may_end = λ files status. (text : List ℕ) × Admits files unit path wishes status text;
+  accepts = λ files. (line : List ℕ) → Admits files unit path wishes Refused line → ⊥;
   reads = IsSome (name_of unit);
 }
+
+abbrev pub tighten_laws : (Files → Type 0) → List ℕ → List ℕ → Wishes → Laws
+tighten_laws agrees unit path wishes = over_files agrees (tighten_by_files unit path wishes)

@@ -24,9 +24,9 @@ pub fn prepare<S: Shelf>(
     path: &str,
     wishes: &[StoredWish],
 ) -> Result<ReadyText, CommandError>
-    ensures prepares { IsAdmitted (tighten_laws (S.told shelf.old) unit.now path.now (⟦<StoredWish as Wished>⟧.wished wishes.now)) status_of text_of result }
-    ensures asks_in_order { AsksInOrder S.asks (S.told shelf.old) (λ files. asks_with_file files unit.now path.now) shelf.old shelf.new (course result) }
-    ensures reads_for_the_unit { ReadsFor S.told S.faults unit.now shelf.old shelf.new result }
+    ensures prepares { IsAdmitted (tighten_laws (S.agrees shelf.new) unit.now path.now (⟦<StoredWish as Wished>⟧.wished wishes.now)) status_of text_of result }
+    ensures asks_in_order { AsksInOrder S.asks (S.agrees shelf.new) (λ files. asks_with_file files unit.now path.now) shelf.old shelf.new (course result) }
+    ensures reads_for_the_unit { ReadsFor S.agrees S.faults unit.now shelf.old shelf.new result }
 {
     let inputs = read_inputs(alloc, shelf, unit)?;
     let keep = read_keep(alloc, shelf, path, &inputs.calls, &inputs.site)?;

@@ -1,6 +1,7 @@
 //! The file of the questions that are to be kept, with the lines of its refusals.
-ghost use Rattle.std.specs.Prelude.{◌≡◌, ◌∷◌, [], Contains, IfOk, IfSome, IsErrOf};
+ghost use Rattle.std.specs.Prelude.{◌≡◌, ◌∷◌, [], Contains, IfOk, IsErrOf};
 ghost use Rattle.std.specs.List.{All};
+ghost use Rattle.asked_service.specs.host_io.Agreeing.{ForFiles};
 ghost use Rattle.asked_service.specs.host_io.Calls.{AsksExactly};
 ghost use Rattle.asked_service.specs.unit_inputs.command_answers.Asking.{course, input_file};
 ghost use Rattle.asked_service.specs.unit_inputs.command_answers.CommandErrors.{HasReadCause};
@@ -63,10 +64,10 @@ pub fn read_keep<S: Shelf>(
     calls: &CallTable,
     site: &SiteTable,
 ) -> Result<Questions, CommandError>
-    ensures reads_what_is_kept { IfSome (S.told shelf.old) (λ files. IsSaid (λ keep. keep) (IsKeepIn files calls.now site.now path.now) result) }
+    ensures reads_what_is_kept { ForFiles (S.agrees shelf.new) (λ files. IsSaid (λ keep. keep) (IsKeepIn files calls.now site.now path.now) result) }
     ensures listed { IfOk result (All (λ question. Contains (questions calls.now site.now) question)) }
     ensures asks_for_it { AsksExactly S.asks shelf.old shelf.new (input_file path.now ∷ []) (course result) }
-    ensures map_stays { S.told shelf.new ≡ S.told shelf.old }
+    ensures answers_stay { ForFiles (S.agrees shelf.new) (S.agrees shelf.old) }
     ensures fault_rose { HasReadCause (S.faults shelf.old) (S.faults shelf.new) result }
 {
     let bytes = read_input(alloc, shelf, path)?;

@@ -1,7 +1,8 @@
 -- What is prepared, step by step.
-use Rattle.std.proofs.Common.{◌≡◌, ◌∙◌, ℕ, List, [], Some, None, Option, Result, Ok, Err, Vec, Global, ◌⊎◌, inl, inr, refl, sym, ap, subst}
+use Rattle.std.proofs.Common.{◌≡◌, ◌∙◌, ℕ, List, [], Option, Result, Ok, Err, Vec, Global, ◌⊎◌, inl, inr, refl, sym, ap, subst}
 use Rattle.std.specs.declared.alloc.AllocError.{AllocError}
-use Rattle.std.specs.Prelude.{Contains, IfOk, IfSome, IsErrOf, IsTrue}
+use Rattle.std.specs.Prelude.{Contains, IfOk, IsErrOf, IsTrue}
+use Rattle.asked_service.specs.host_io.Agreeing.{ForFiles}
 use Rattle.asked_service.specs.host_io.Files.{Files}
 use Rattle.asked_service.specs.call_table.Table.{Table}
 use Rattle.asked_service.specs.unit_inputs.command_answers.ExitStatuses.{is_answer}
@@ -36,29 +37,29 @@ ends_so : (tried : Tried) (launch : Result Service LaunchError) (status : ExitSt
 ends_so tried (Err error) status text tells = inr tells.0
 ends_so tried (Ok service) status text tells = inl tells.0
 
-module _ (told : Option Files) (unit : List ℕ) (words : List (List ℕ)) where
+module _ (agrees : Files → Type 0) (unit : List ℕ) (words : List (List ℕ)) where
   -- each ending behind an answer is one
   answered : (status : ExitStatus) → (why_laws unit words).may_end status → IsTrue (is_answer status)
   answered status (inl done) = subst (λ e. IsTrue (is_answer e)) (sym done) refl
   answered status (inr launch) = subst (λ e. IsTrue (is_answer e)) (sym launch) refl
 
-  pub together : GoTogether (laws_over told (why_laws unit words))
-  together = go_together (why_laws unit words) told answered
+  pub together : GoTogether (laws_over agrees (why_laws unit words))
+  together = go_together (why_laws unit words) agrees answered
 
 -- an input is refused
-pub stops_at_inputs : (P : Files → UnitInputs → Type 0) (told : Option Files) (unit : List ℕ) (words : List (List ℕ)) (stop : CommandError)
-    → IfSome told (λ files. Prepares (P files) (input_refusals files unit) (Err stop))
-    → IsAdmitted (laws_over told (why_laws unit words)) status_of text_of (Err stop)
-stops_at_inputs P told unit words stop said =
-    stop_is_admitted (why_laws unit words) status_of text_of (λ (made : ReadyText). Unit {0}) told stop
-    (steps.stops_at_inputs P (λ files (made : ReadyText). Unit {0}) told unit
+pub stops_at_inputs : (P : Files → UnitInputs → Type 0) (agrees : Files → Type 0) (unit : List ℕ) (words : List (List ℕ)) (stop : CommandError)
+    → ForFiles agrees (λ files. Prepares (P files) (input_refusals files unit) (Err stop))
+    → IsAdmitted (laws_over agrees (why_laws unit words)) status_of text_of (Err stop)
+stops_at_inputs P agrees unit words stop said =
+    stop_is_admitted (why_laws unit words) status_of text_of (λ (made : ReadyText). Unit {0}) agrees stop
+    (steps.stops_at_inputs P (λ files (made : ReadyText). Unit {0}) agrees unit
     (λ files. refusals_by (refusals_behind unit words) (inputs_of files unit)) stop said)
 
-module _ (told : Option Files) (unit : List ℕ) (words : List (List ℕ)) (inputs : UnitInputs) (are : IfSome told (λ files. AreRead files unit inputs)) where
-  read_is : (files : Files) → told ≡ Some files → AreRead files unit inputs
-  read_is files e = subst (λ own. IfSome own (λ files. AreRead files unit inputs)) e are
+module _ (agrees : Files → Type 0) (unit : List ℕ) (words : List (List ℕ)) (inputs : UnitInputs) (are : ForFiles agrees (λ files. AreRead files unit inputs)) where
+  read_is : (files : Files) → agrees files → AreRead files unit inputs
+  read_is files e = are files e
 
-  behind_inputs : (files : Files) → told ≡ Some files → first_refusal (why_refusals files unit words)
+  behind_inputs : (files : Files) → agrees files → first_refusal (why_refusals files unit words)
       ≡ first_refusal (refusals_behind unit words (inputs_view inputs))
   behind_inputs files e = refusals_with files unit (input_refusals files unit) (refusals_behind unit words) (inputs_view inputs)
       (read_is files e).0 (read_is files e).1
@@ -66,17 +67,16 @@ module _ (told : Option Files) (unit : List ℕ) (words : List (List ℕ)) (inpu
   -- what stops behind them is admitted
   stops_behind : (P : ReadyText → Type 0) (some : List (Option (List ℕ))) (why : CommandError)
       → first_refusal (refusals_behind unit words (inputs_view inputs)) ≡ first_refusal some → Prepares P some (Err why)
-      → IsAdmitted (laws_over told (why_laws unit words)) status_of text_of (Err why)
-  stops_behind P some why same is = stop_is_admitted (why_laws unit words) status_of text_of P told why (at told refl)
+      → IsAdmitted (laws_over agrees (why_laws unit words)) status_of text_of (Err why)
+  stops_behind P some why same is = stop_is_admitted (why_laws unit words) status_of text_of P agrees why at
     where
-      at : (own : Option Files) → told ≡ own → IfSome own (λ files. Prepares P (why_refusals files unit words) (Err why))
-      at None e = tt
-      at (Some files) e = stops_as P why some (why_refusals files unit words) (behind_inputs files e ∙ same) is
+      at : ForFiles agrees (λ files. Prepares P (why_refusals files unit words) (Err why))
+      at files e = stops_as P why some (why_refusals files unit words) (behind_inputs files e ∙ same) is
 
   -- the words are no question
   pub stops_at_question : (calls : Table) (site : Site) (why : CommandError) → calls ≡ (inputs_view inputs).calls → site ≡ (inputs_view inputs).site
       → IsAnswer (λ (question : Question). question) (Err why) (question_in calls site words)
-      → IsAdmitted (laws_over told (why_laws unit words)) status_of text_of (Err why)
+      → IsAdmitted (laws_over agrees (why_laws unit words)) status_of text_of (Err why)
   stops_at_question calls site why one two is =
       stops_behind (λ made. Unit {0}) (refusals_behind unit words (inputs_view inputs)) why refl
       (stops (λ (question : Question). question) (λ (made : ReadyText). Unit {0})
@@ -95,16 +95,15 @@ module _ (told : Option Files) (unit : List ℕ) (words : List (List ℕ)) (inpu
         (start_refusals unit (inputs_view inputs)) question_is
 
     admitted : (result : Result ReadyText CommandError) → Prepares (λ made. TellsWhy tried (status_of made) (text_of made))
-        (start_refusals unit (inputs_view inputs)) result → IsAdmitted (laws_over told (why_laws unit words)) status_of text_of result
+        (start_refusals unit (inputs_view inputs)) result → IsAdmitted (laws_over agrees (why_laws unit words)) status_of text_of result
     admitted (Err why) answers = stops_behind (λ made. TellsWhy tried (status_of made) (text_of made))
         (start_refusals unit (inputs_view inputs)) why behind_question answers
-    admitted (Ok made) answers = ready_is_admitted (why_laws unit words) status_of text_of told made
-        (ends_so tried answers.1.launch (status_of made) (text_of made) answers.1.tells) (printed told refl)
+    admitted (Ok made) answers = ready_is_admitted (why_laws unit words) status_of text_of agrees made
+        (ends_so tried answers.1.launch (status_of made) (text_of made) answers.1.tells) printed
       where
-        printed : (own : Option Files) → told ≡ own → IfSome own
+        printed : ForFiles agrees
             (λ files. AcceptsFiles (why_laws unit words) files × PrintsWhy files unit words (status_of made) (text_of made))
-        printed None e = tt
-        printed (Some files) e = (
+        printed files e = (
           behind_inputs files e ∙ behind_question ∙ answers.0,
           record {
             tried = tried;
@@ -121,7 +120,7 @@ module _ (told : Option Files) (unit : List ℕ) (words : List (List ℕ)) (inpu
       → question_in calls site words ≡ Ok question → (own : Inputs) → own ≡ inputs_view inputs → (result : Result ReadyText CommandError)
       → Prepares (λ made. TellsWhy (record { name = unit; inputs = own; question = question }) (status_of made) (text_of made))
       (start_refusals unit own) result
-      → IsAdmitted (laws_over told (why_laws unit words)) status_of text_of result
+      → IsAdmitted (laws_over agrees (why_laws unit words)) status_of text_of result
   admitted_as calls site question one two is own same result answers =
       admitted question
       (subst (λ (these : Site). question_in (inputs_view inputs).calls these words ≡ Ok question) two

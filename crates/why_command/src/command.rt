@@ -24,9 +24,9 @@ pub fn prepare<S: Shelf>(
     unit: &str,
     words: &[&str],
 ) -> Result<ReadyText, CommandError>
-    ensures prepares { IsAdmitted (laws_over (S.told shelf.old) (why_laws unit.now (map (λ word. word.now) words.now))) status_of text_of result }
-    ensures asks_in_order { AsksInOrder S.asks (S.told shelf.old) (λ files. input_asks files unit.now) shelf.old shelf.new (course result) }
-    ensures reads_for_the_unit { ReadsFor S.told S.faults unit.now shelf.old shelf.new result }
+    ensures prepares { IsAdmitted (laws_over (S.agrees shelf.new) (why_laws unit.now (map (λ word. word.now) words.now))) status_of text_of result }
+    ensures asks_in_order { AsksInOrder S.asks (S.agrees shelf.new) (λ files. input_asks files unit.now) shelf.old shelf.new (course result) }
+    ensures reads_for_the_unit { ReadsFor S.agrees S.faults unit.now shelf.old shelf.new result }
 {
     let inputs = read_inputs(alloc, shelf, unit)?;
     let question = asked_question(alloc, words, &inputs.calls, &inputs.site)?;

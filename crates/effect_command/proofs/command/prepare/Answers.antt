@@ -17,24 +17,24 @@ use Rattle.effect_command.proofs.command.prepare.Goals as goal
 
 pub returns-in_err-inputs-clause-prepares : goal.returns-in_err-inputs-clause-prepares
 returns-in_err-inputs-clause-prepares g c =
-    at_stop (IsAdmitted (laws_over (g.S.Shelf.told c.args.shelf.now) (effect_laws c.args.unit.now c.args.path.now)) status_of text_of)
+    at_stop (IsAdmitted (laws_over (g.S.Shelf.agrees c.read_inputs.new.shelf) (effect_laws c.args.unit.now c.args.path.now)) status_of text_of)
     c.from_residual.result c.in_err-inputs.field-0.0 c.from_residual.ensures.1
     (stops_at_inputs (λ files inputs. inputs_of files c.args.unit.now ≡ Some (inputs_view inputs))
-    (g.S.Shelf.told c.args.shelf.now) c.args.unit.now c.args.path.now c.in_err-inputs.field-0.0
+    (g.S.Shelf.agrees c.read_inputs.new.shelf) c.args.unit.now c.args.path.now c.in_err-inputs.field-0.0
     c.in_err-inputs.ensures.reads_by_the_files)
 
 pub returns-in_err-more-clause-prepares : goal.returns-in_err-more-clause-prepares
 returns-in_err-more-clause-prepares g c =
-    at_stop (IsAdmitted (laws_over (g.S.Shelf.told c.args.shelf.now) (effect_laws c.args.unit.now c.args.path.now)) status_of text_of)
+    at_stop (IsAdmitted (laws_over (g.S.Shelf.agrees c.read_dropin.new.shelf) (effect_laws c.args.unit.now c.args.path.now)) status_of text_of)
     c.from_residual-in_err-more.result c.in_err-more.field-0.0 c.from_residual-in_err-more.ensures.1
-    (stops_at_dropin (g.S.Shelf.told c.args.shelf.now) (g.S.Shelf.told c.read_inputs.new.shelf) c.args.unit.now c.args.path.now
-    c.in_ok-inputs.inputs c.in_err-more.field-0.0 c.in_ok-inputs.ensures.reads_for_the_unit.map_stays
+    (stops_at_dropin (g.S.Shelf.agrees c.read_inputs.new.shelf) (g.S.Shelf.agrees c.read_dropin.new.shelf) c.args.unit.now c.args.path.now
+    c.in_ok-inputs.inputs c.in_err-more.field-0.0 c.in_err-more.ensures.answers_stay
     c.in_ok-inputs.ensures.reads_by_the_files c.in_err-more.ensures.reads_the_dropin)
 
 pub returns-clause-prepares : goal.returns-clause-prepares
 returns-clause-prepares g c =
-    admitted_as (g.S.Shelf.told c.args.shelf.now) (g.S.Shelf.told c.read_inputs.new.shelf) c.args.unit.now c.args.path.now
-    c.in_ok-inputs.inputs c.in_ok-more.more c.in_ok-inputs.ensures.reads_for_the_unit.map_stays
+    admitted_as (g.S.Shelf.agrees c.read_inputs.new.shelf) (g.S.Shelf.agrees c.read_dropin.new.shelf) c.args.unit.now c.args.path.now
+    c.in_ok-inputs.inputs c.in_ok-more.more c.in_ok-more.ensures.answers_stay
     c.in_ok-inputs.ensures.reads_by_the_files c.in_ok-more.ensures.reads_the_dropin
     (given c.deref.result.now c.deref-2.result.now c.deref-3.result.now) c.answer.result
     (same_inputs (inputs_view c.in_ok-inputs.inputs) c.deref.result.now c.deref-2.result.now c.deref-3.result.now c.deref.ensures
@@ -42,31 +42,31 @@ returns-clause-prepares g c =
 
 pub returns-clause-reads_for_the_unit : goal.returns-clause-reads_for_the_unit
 returns-clause-reads_for_the_unit g c =
-    read_behind g.S.Shelf.told g.S.Shelf.faults c.args.unit.now _ _ _ c.in_ok-inputs.inputs c.in_ok-more.more
+    read_behind g.S.Shelf.agrees g.S.Shelf.faults c.args.unit.now _ _ _ c.in_ok-inputs.inputs c.in_ok-more.more
     c.in_ok-inputs.ensures.reads_for_the_unit
     (named (name_of c.args.unit.now) c.in_ok-inputs.inputs.unit.value.name c.in_ok-inputs.ensures.names_the_unit)
-    c.in_ok-more.ensures.map_stays c.in_ok-more.ensures.fault_rose c.answer.result c.answer.ensures.reads_nothing
+    c.in_ok-more.ensures.answers_stay c.in_ok-more.ensures.fault_rose c.answer.result c.answer.ensures.reads_nothing
 
 pub returns-in_err-inputs-clause-asks_in_order : goal.returns-in_err-inputs-clause-asks_in_order
 returns-in_err-inputs-clause-asks_in_order g c =
-    stops_before_file g.S.Shelf.asks (g.S.Shelf.told c.args.shelf.now) c.args.unit.now c.args.path.now c.args.shelf.now _
+    stops_before_file g.S.Shelf.asks (g.S.Shelf.agrees c.read_inputs.new.shelf) c.args.unit.now c.args.path.now c.args.shelf.now _
     c.from_residual.result c.in_err-inputs.field-0.0 c.from_residual.ensures.1
     c.in_err-inputs.ensures.reads_by_the_files c.in_err-inputs.ensures.asks_in_order
 
 pub returns-in_err-more-clause-asks_in_order : goal.returns-in_err-more-clause-asks_in_order
 returns-in_err-more-clause-asks_in_order g c =
-    stops_at_file g.S.Shelf.asks (g.S.Shelf.told c.args.shelf.now) c.args.unit.now c.args.path.now c.args.shelf.now
-    c.read_inputs.new.shelf UnitText c.read_dropin.new.shelf (g.S.Shelf.told c.read_inputs.new.shelf) c.in_ok-inputs.inputs
+    stops_at_file g.S.Shelf.asks (g.S.Shelf.agrees c.read_dropin.new.shelf) c.args.unit.now c.args.path.now c.args.shelf.now
+    c.read_inputs.new.shelf UnitText c.read_dropin.new.shelf (g.S.Shelf.agrees c.read_inputs.new.shelf) c.in_ok-inputs.inputs
     c.from_residual-in_err-more.result c.in_err-more.field-0.0 c.from_residual-in_err-more.ensures.1
-    c.in_ok-inputs.ensures.reads_for_the_unit.map_stays c.in_ok-inputs.ensures.reads_by_the_files c.in_ok-inputs.ensures.asks_in_order
+    c.in_err-more.ensures.answers_stay c.in_ok-inputs.ensures.reads_by_the_files c.in_ok-inputs.ensures.asks_in_order
     c.in_err-more.ensures.asks_for_it
 
 pub returns-clause-asks_in_order : goal.returns-clause-asks_in_order
 returns-clause-asks_in_order g c =
-    order_quiet g.S.Shelf.asks (g.S.Shelf.told c.args.shelf.now)
+    order_quiet g.S.Shelf.asks (g.S.Shelf.agrees c.read_dropin.new.shelf)
     (λ files. asks_with_file files c.args.unit.now c.args.path.now) c.args.shelf.now c.read_dropin.new.shelf c.answer.result
     c.answer.ensures.reads_nothing
-    (with_file g.S.Shelf.asks (g.S.Shelf.told c.args.shelf.now) c.args.unit.now c.args.path.now c.args.shelf.now c.read_inputs.new.shelf
-    c.read_dropin.new.shelf (g.S.Shelf.told c.read_inputs.new.shelf) c.in_ok-inputs.inputs Whole
-    c.in_ok-inputs.ensures.reads_for_the_unit.map_stays c.in_ok-inputs.ensures.reads_by_the_files c.in_ok-inputs.ensures.asks_in_order
+    (with_file g.S.Shelf.asks (g.S.Shelf.agrees c.read_dropin.new.shelf) c.args.unit.now c.args.path.now c.args.shelf.now c.read_inputs.new.shelf
+    c.read_dropin.new.shelf (g.S.Shelf.agrees c.read_inputs.new.shelf) c.in_ok-inputs.inputs Whole
+    c.in_ok-more.ensures.answers_stay c.in_ok-inputs.ensures.reads_by_the_files c.in_ok-inputs.ensures.asks_in_order
     c.in_ok-more.ensures.asks_for_it)

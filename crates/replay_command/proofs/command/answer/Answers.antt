@@ -11,27 +11,27 @@ use Rattle.replay_command.proofs.command.answer.Goals as goal
 
 pub returns-in-Ok-clause-runs : goal.returns-in-Ok-clause-runs
 returns-in-Ok-clause-runs g c =
-    ran_prepared (g.S.Shelf.told c.args.shelf.now) c.args.unit.now c.args.script.now c.in-Ok.prepared c.in-Ok.ensures.can_be_started
+    ran_prepared (g.S.Shelf.agrees c.prepare.new.shelf) c.args.unit.now c.args.script.now c.in-Ok.prepared c.in-Ok.ensures.can_be_started
     c.in-Ok.ensures.prepares _ c.answer_prepared.result c.in-Ok.ensures.reads_for_the_unit.fault_rose
     c.answer_prepared.ensures.finishes
 
 pub returns-in-Err-clause-runs : goal.returns-in-Err-clause-runs
 returns-in-Err-clause-runs g c =
     ran_stopped (replay_laws c.args.unit.now c.args.script.now) (λ files. IsPrepared files c.args.unit.now c.args.script.now)
-    (g.S.Shelf.told c.args.shelf.now) (together (g.S.Shelf.told c.args.shelf.now) c.args.unit.now c.args.script.now) _
+    (g.S.Shelf.agrees c.prepare.new.shelf) (together (g.S.Shelf.agrees c.prepare.new.shelf) c.args.unit.now c.args.script.now) _
     c.finish_error.result c.in-Err.stop
-    (stops_before_paths (g.S.Shelf.told c.args.shelf.now) c.args.unit.now c.args.script.now c.in-Err.stop c.in-Err.ensures.prepares)
+    (stops_before_paths (g.S.Shelf.agrees c.prepare.new.shelf) c.args.unit.now c.args.script.now c.in-Err.stop c.in-Err.ensures.prepares)
     c.in-Err.ensures.reads_for_the_unit.reads_for_a_name
     c.in-Err.ensures.reads_for_the_unit.fault_rose c.finish_error.ensures.finishes
 
 pub returns-in-Ok-clause-asks_in_order : goal.returns-in-Ok-clause-asks_in_order
 returns-in-Ok-clause-asks_in_order g c =
-    order_started g.S.Shelf.asks (g.S.Shelf.told c.args.shelf.now)
+    order_started g.S.Shelf.asks (g.S.Shelf.agrees c.prepare.new.shelf)
     (λ files. asks_with_file files c.args.unit.now c.args.script.now) c.args.shelf.now c.prepare.new.shelf c.args.unit.now c.in-Ok.prepared
     c.answer_prepared.result _ c.answer_prepared.ensures.finishes c.in-Ok.ensures.asks_in_order
 
 pub returns-in-Err-clause-asks_in_order : goal.returns-in-Err-clause-asks_in_order
 returns-in-Err-clause-asks_in_order g c =
-    order_stop g.S.Shelf.asks (g.S.Shelf.told c.args.shelf.now)
+    order_stop g.S.Shelf.asks (g.S.Shelf.agrees c.prepare.new.shelf)
     (λ files. asks_with_file files c.args.unit.now c.args.script.now) c.args.shelf.now c.prepare.new.shelf Prepared c.in-Err.stop
     c.finish_error.result _ c.finish_error.ensures.finishes c.in-Err.ensures.asks_in_order
