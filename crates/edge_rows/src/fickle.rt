@@ -1,23 +1,23 @@
 //! Resolves a unit over a shelf that lists a file that it then lacks.
-ghost use Rattle.std.specs.Prelude.{◌≡◌, None};
+ghost use Rattle.std.specs.Prelude.{◌≡◌};
 
 use dropin_merge::{Resolved, resolve};
 use host_io::{Shelf, ShelfError};
 use std::alloc::{AllocError, Global};
 
-// A shelf that shows no files and has one fragment. Each of its folders lists a drop-in, which it lacks.
+// A shelf with one fragment. Each of its folders lists a drop-in, which it then lacks, so no files agree with it.
 #[derive(Drop)]
 struct Fickle;
 
 impl Shelf for Fickle {
-    ghost told = { λ _. None };
+    ghost agrees = { λ _ _. ⊥ };
 
     ghost faults = { λ _. 0 };
 
     // no call changes it
     ghost asks = { λ before _ now. now ≡ before };
 
-    ghost tells_a_map = { λ _. tt };
+    ghost agrees_with_maps = { λ _ _ agree. absurd agree };
 
     fn read(&mut self, alloc: Global, path: &str, limit: u64) -> Result<Vec<u8>, ShelfError> {
         if path == "etc/systemd/system/web.service" && limit >= 14 {
