@@ -1,26 +1,21 @@
--- The last element that says something, over the rest of a list.
-use Rattle.std.proofs.Common.{◌≡◌, Option, Some, None, List, [], ◌∷◌, refl, sym, ap, ◌∙◌}
+-- The last element that says something, over the elements so far.
+use Rattle.std.proofs.Common.{◌≡◌, ℕ, ◌+◌, ◌<◌, Option, Some, List, [], ◌∷◌, ◌++◌, length, take, get_or, refl, sym, ap, ◌∙◌}
 use Rattle.std.specs.Prelude.{unwrap_or}
 use Rattle.std.specs.List.{cons_option, filter_map}
+use Rattle.std.proofs.lemmas.List.Elements.{filter_map-append}
 use Rattle.cred_settings.specs.unit_grammar.Before.{last_of}
+use Rattle.cred_settings.proofs.OfDropinMerge.OneMore.{take_item}
 
--- a list that is not empty has a last element
-any_default : {X : Type 0} (x : X) (xs : List X) (one other : X) → unwrap_or (last_of (x ∷ xs)) one ≡ unwrap_or (last_of (x ∷ xs)) other
-any_default x [] one other = refl
-any_default x (y ∷ xs) one other = any_default y xs one other
+last_pushed : {X : Type 0} (xs : List X) (x : X) → last_of (xs ++ x ∷ []) ≡ Some x
+last_pushed [] x = refl
+last_pushed (y ∷ []) x = refl
+last_pushed (y ∷ z ∷ xs) x = last_pushed (z ∷ xs) x
 
-last_cons : {X : Type 0} (o : Option X) (xs : List X) (first : X)
-    → unwrap_or (last_of (cons_option o xs)) first ≡ unwrap_or (last_of xs) (unwrap_or o first)
-last_cons None xs first = refl
-last_cons (Some x) [] first = refl
-last_cons (Some x) (y ∷ xs) first = any_default y xs first x
-
--- the rest says the same with its next element, which may say something
-pub last_left : {X Y : Type 0} (f : X → Option Y) (left more : List X) (x : X) (now next wanted : Y) → left ≡ x ∷ more
-    → next ≡ unwrap_or (f x) now → unwrap_or (last_of (filter_map f left)) now ≡ wanted
-    → unwrap_or (last_of (filter_map f more)) next ≡ wanted
-last_left f left more x now next wanted first step before =
-    ap (unwrap_or (last_of (filter_map f more))) step
-    ∙ sym (last_cons (f x) (filter_map f more) now)
-    ∙ ap (λ xs. unwrap_or (last_of (filter_map f xs)) now) (sym first)
-    ∙ before
+-- the next element says something, whatever was said before
+pub last_so_far : {X Y : Type 0} (f : X → Option Y) (xs : List X) (i : ℕ) (x : X) (next default : Y) → i < length xs → x ≡ get_or xs i x
+    → f x ≡ Some next → next ≡ unwrap_or (last_of (filter_map f (take (i + 1) xs))) default
+last_so_far f xs i x next default lt is says = sym
+    (ap (λ ones. unwrap_or (last_of (filter_map f ones)) default) (take_item xs i x lt is)
+    ∙ ap (λ said. unwrap_or (last_of said) default) (filter_map-append f (take i xs) (x ∷ []))
+    ∙ ap (λ o. unwrap_or (last_of (filter_map f (take i xs) ++ cons_option o [])) default) says
+    ∙ ap (λ o. unwrap_or o default) (last_pushed (filter_map f (take i xs)) next))

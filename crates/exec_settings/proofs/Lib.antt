@@ -1,5 +1,6 @@
 pub mod FilterSame
 pub mod Alone
+pub mod Asked
 pub mod Others
 pub mod Lasts
 pub mod Launching

@@ -42,7 +42,7 @@ fn program_of(
     ensures program { IfOk result (λ path. path_of unit.now site.now program ≡ Some path) }
 {
     let path = path_of(alloc, unit, site, program)?;
-    if let Some(key) = outside_key(unit, paths, path.is_none()) {
+    if let Some(key) = outside_key(alloc, unit, paths, path.is_none())? {
         return Err(SettingsError::OutsideProfile(Text::new(alloc, key)?));
     }
     match path {
