@@ -2,6 +2,7 @@ pub mod FilterSame
 pub mod Alone
 pub mod Asked
 pub mod Others
+pub mod ShortKeys
 pub mod Lasts
 pub mod Launching
 pub mod Noted

@@ -16,10 +16,16 @@ fn is_named(rows: &[(&str, Meaning)], key: &str) -> bool
     rows.iter().any(|row| row.0 == key)
 }
 
+// A key of fewer bytes is only compared with the judged keys that are as short.
+const LONG_KEY: usize = 9;
+
 // Returns whether a key is a setting for this systemd, or refuses the unit.
 fn is_judged(systemd: Option<Version>, key: &str) -> bool
     ensures by_the_keys { result ≡ is_judged systemd key.now }
 {
+    if key.len() < LONG_KEY {
+        return is_among(&["Group", "User"], key);
+    }
     is_named(keys(systemd), key)
 }
 

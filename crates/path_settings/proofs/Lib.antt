@@ -1,4 +1,5 @@
 pub mod Named
+pub mod ShortTexts
 pub mod ReadMentions
 pub mod ReadFolders
 pub mod Worked

@@ -65,11 +65,17 @@ pub const ALL_PATH_KEYS: [PathKey; 13] = [
     PathKey::ConfigurationDirectory,
 ];
 
+// The fewest bytes of a name. A shorter text is not compared with the names.
+const SHORTEST_NAME: usize = 9;
+
 impl PathKey {
     /// Returns the key of this name. None if no key that names paths has it.
     pub fn named(dialect: Dialect, text: &str) -> Option<PathKey>
         ensures first_of_this_name { result ≡ key_named dialect text.now }
     {
+        if text.len() < SHORTEST_NAME {
+            return None;
+        }
         ALL_PATH_KEYS
             .iter()
             .copied()

@@ -1,8 +1,14 @@
-use Rattle.std.proofs.Common.{sym, ap, ◌∙◌}
+use Rattle.std.proofs.Common.{sym, ap, ◌∙◌, arith}
 use Rattle.std.specs.List.{list_any}
 use Rattle.std.specs.Str.{bytes_eq}
 use Rattle.filter_settings.proofs.Mapped.{list_any-map}
+use Rattle.exec_settings.proofs.ShortKeys.{short_judged}
 use Rattle.exec_settings.proofs.judged.is_judged.Goals as goal
+
+pub returns-then-key-lt-LONG_KEY : goal.returns-then-key-lt-LONG_KEY
+returns-then-key-lt-LONG_KEY c = record {
+  by_the_keys = c.is_among.ensures ∙ short_judged c.args.systemd c.args.key.now (omega arith);
+}
 
 pub returns : goal.returns
 returns c =
