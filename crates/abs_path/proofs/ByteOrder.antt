@@ -1,6 +1,6 @@
 -- Paths in byte order of their texts.
 use Rattle.std.proofs.Common.{◌≡◌, ℕ, true, false, List, [], ◌∷◌, ◌++◌, ◌⊎◌, inl, inr, refl, sym, ap, ◌∙◌, subst, append_assoc, Ordering}
-use Rattle.std.proofs.Common.{Less, Equal, Greater, append-nil}
+use Rattle.std.proofs.Common.{Less, Equal, Greater, append-nil, Bool, ◌<◌, length, length-append, arith}
 use Rattle.std.specs.Ordering.{is_lt, nat_cmp, ordering_then}
 use Rattle.std.specs.Cmp.Lexicographic.{slice_cmp}
 use Rattle.std.proofs.lemmas.Bool.{false≢true}
@@ -46,3 +46,11 @@ prefix_before front path h = by (rest_of front path) (prefix_and_rest front path
 -- the text of a path is the text of its prefix, followed by the text of the rest
 pub text_then_rest : (front path : Path) → is_prefix front path ≡ true → tail_of path ≡ tail_of front ++ tail_of (rest_of front path)
 text_then_rest front path h = sym (ap tail_of (prefix_and_rest front path h)) ∙ tail-append front (rest_of front path)
+
+-- a path does not lead to another with a shorter text
+pub longer_is_no_prefix : (front path : Path) → length (tail_of path) < length (tail_of front) → false ≡ is_prefix front path
+longer_is_no_prefix front path longer = by (is_prefix front path) refl
+  where
+    by : (b : Bool) → is_prefix front path ≡ b → false ≡ is_prefix front path
+    by false e = sym e
+    by true e = absurd (omega (arith, ap length (text_then_rest front path e) ∙ length-append (tail_of front) (tail_of (rest_of front path))))

@@ -71,6 +71,7 @@ impl AbsPath {
     }
 
     /// Returns how many bytes the parts have, each with the slash before it. The root has 0.
+    #[inline(always)]
     pub fn tail_len(&self) -> usize
         ensures length { result ≡ length (tail_of self.now) }
         ensures short { result ≤ 512 }
@@ -86,6 +87,7 @@ impl AbsPath {
     }
 
     /// Returns a copy of the path.
+    #[inline]
     pub fn copy(&self, alloc: Global) -> Result<AbsPath, AllocError>
         ensures same { IfOk result (λ path. path ≡ self.now) }
     {

@@ -2,10 +2,11 @@
 //!
 //! A contract sees a table as the list of its mounts. A tree over the parts of the mount points finds a path's entry among the
 //! first mounts, such as the mounts that a launch adds. Later mounts are searched one by one, so a recursive bind that copies
-//! many mounts leaves the tree as it is.
+//! many mounts leaves the tree as it is. The copies of a table share its tree and the texts of its paths.
 
 mod bind;
 mod finding;
+mod known;
 mod remount;
 mod umount;
 
@@ -24,6 +25,7 @@ use crate::step::{Flags, Mount, MountStep, What};
 use abs_path::AbsPath;
 use abs_path::place_tree::PlaceTree;
 use finding::last_leading;
+use known::KnownPlaces;
 use linux_numbers::errnos::ENOSPC;
 use linux_numbers::limits::MOUNT_MAX;
 use std::alloc::{AllocError, Global};
@@ -35,7 +37,7 @@ use std::marker::Model;
 pub struct MountTable {
     mounts: Vec<Mount>,
     // the mount points of the first `known` mounts
-    places: PlaceTree,
+    places: KnownPlaces,
     known: usize,
     // true until a mount is removed: only then may `places` still learn the mount points of new mounts
     only_grew: bool,
@@ -60,8 +62,9 @@ impl MountTable {
         ensures shows_the_host { IfOk result (λ table. table ≡ first_mounts) }
     {
         let mut mounts = Vec::new(alloc);
-        let mut places = PlaceTree::new(alloc)?;
-        places.push(&AbsPath::root(alloc))?;
+        let mut tree = PlaceTree::new(alloc)?;
+        tree.push(&AbsPath::root(alloc))?;
+        let places = KnownPlaces::of(alloc, tree)?;
         mounts.push(Mount::plain(MountStep {
             place: AbsPath::root(alloc),
             what: What::Host(AbsPath::root(alloc)),
@@ -147,14 +150,15 @@ impl MountTable {
         add_all(&mut self.mounts, more)
     }
 
-    // Adds the last mount's place to `places`, if all others are known and none was removed. If memory runs out, it stays
-    // unknown.
+    // Adds the last mount's place to `places`, if all others are known and none was removed. It stays unknown if memory runs
+    // out, or if copies of the table share a large tree.
     fn learn(&mut self)
         ensures { self.new ≡ self.old }
     {
         let at = self.known;
         if self.only_grew && at + 1 == self.mounts.len() {
-            match self.places.push(&self.mounts[at].step.place) {
+            let alloc = *self.mounts.allocator();
+            match self.places.add(alloc, at, &self.mounts[at].step.place) {
                 Ok(()) => self.known = at + 1,
                 Err(_) => {}
             }

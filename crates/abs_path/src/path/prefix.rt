@@ -8,6 +8,7 @@ use super::{AbsPath, LONGEST};
 use crate::error::JoinError;
 use std::alloc::{AllocError, Global};
 
+#[inline(always)]
 fn is_behind(rest: &str) -> bool
     ensures { result ≡ is_behind rest.now }
 {
@@ -17,6 +18,7 @@ fn is_behind(rest: &str) -> bool
     }
 }
 
+#[inline(always)]
 fn after<'a>(front: &str, text: &'a str) -> Option<&'a str>
     ensures { option_map (λ rest. rest.now) result ≡ after front.now text.now }
 {
@@ -24,6 +26,7 @@ fn after<'a>(front: &str, text: &'a str) -> Option<&'a str>
 }
 
 // returns the rest of the text after the front, if the text ends there or continues with a slash
+#[inline(always)]
 fn behind<'a>(front: &str, text: &'a str) -> Option<&'a str>
     ensures { option_map (λ rest. rest.now) result ≡ behind_text front.now text.now }
 {
@@ -33,13 +36,18 @@ fn behind<'a>(front: &str, text: &'a str) -> Option<&'a str>
 
 impl AbsPath {
     /// Returns whether this path is the other or leads to it, by whole parts.
+    #[inline(always)]
     pub fn is_prefix(&self, of: &AbsPath) -> bool
         ensures by_whole_parts { result ≡ is_prefix self.now of.now }
     {
+        if self.tail_len() > of.tail_len() {
+            return false;
+        }
         self.rest(of).is_some()
     }
 
     /// Returns whether the other path leads to this one, and is not this one.
+    #[inline(always)]
     pub fn is_below(&self, other: &AbsPath) -> bool
         ensures by_whole_parts { result ≡ is_below self.now other.now }
     {
@@ -51,6 +59,7 @@ impl AbsPath {
 
     /// Returns the rest of the other path after this one: nothing, or further parts, each after a slash. None if this
     /// path does not lead to the other.
+    #[inline(always)]
     pub fn rest<'a>(&self, of: &'a AbsPath) -> Option<&'a str>
         ensures behind { option_map (λ rest. rest.now) result ≡ rest_text self.now of.now }
         ensures further_parts { IfSome result (λ rest. parts_of rest.now ≡ rest_of self.now of.now) }
@@ -64,6 +73,7 @@ impl AbsPath {
     /// slash.
     ///
     /// It returns TooLong if the two have more than 512 bytes together. It may return Memory for any rest.
+    #[inline]
     pub fn join(&self, alloc: Global, rest: &str) -> Result<AbsPath, JoinError>
         requires { IsRest rest.now }
         ensures joins_or_too_long { Joins self.now rest.now result }
@@ -75,6 +85,7 @@ impl AbsPath {
     }
 
     // Returns the path with a rest after it. The two have at most 512 bytes together.
+    #[inline]
     fn with_rest(&self, alloc: Global, rest: &str) -> Result<AbsPath, AllocError>
         requires is_rest { IsRest rest.now }
         requires short { length (tail_of (self.now ++ parts_of rest.now)) ≤ 512 }

@@ -118,7 +118,7 @@ impl AbsPath {
         if climbs(&pieces) {
             return Err(PathError::DotDot);
         }
-        let tail = Text::of(folded(alloc, &pieces)?);
+        let tail = Text::of(folded(alloc, &pieces)?)?;
         Ok(AbsPath { tail })
     }
 }

@@ -209,6 +209,7 @@ fn copied_among(mounts: &[Mount], at: usize, recursive: bool) -> &[Mount]
 }
 
 // Whether a path followed by a rest is too long.
+#[inline(always)]
 fn is_long(onto: &AbsPath, rest: &str) -> bool
     requires is_rest { IsRest rest.now }
     ensures { result ≡ is_long (onto.now ++ parts_of rest.now) }
@@ -247,6 +248,7 @@ fn object_at(alloc: Global, entry: &MountStep, source: &AbsPath) -> Result<What,
 }
 
 // The rest of the mount's place after the source, or None if the mount is not strictly below the source.
+#[inline(always)]
 fn rest_below<'a>(mount: &'a Mount, source: &AbsPath) -> Option<&'a str>
     ensures below { is_some result ≡ stands_below source.now mount.now }
     ensures behind { IfSome result (λ rest. parts_of rest.now ≡ rest_of source.now mount.now.step.place) }
@@ -276,6 +278,7 @@ fn count_copies(later: &[Mount], source: &AbsPath, target: &AbsPath) -> Option<u
 }
 
 // The path followed by a rest. The result must not be too long, so only memory can run out.
+#[inline(always)]
 fn joined(alloc: Global, path: &AbsPath, rest: &str) -> Result<AbsPath, AllocError>
     requires is_rest { IsRest rest.now }
     requires short { is_long (path.now ++ parts_of rest.now) ≡ false }
@@ -285,6 +288,7 @@ fn joined(alloc: Global, path: &AbsPath, rest: &str) -> Result<AbsPath, AllocErr
 }
 
 // The copy of an entry. Its place after the source is this rest.
+#[inline(always)]
 fn moved(
     alloc: Global,
     entry: &MountStep,
@@ -321,6 +325,7 @@ fn bound_entry(
 }
 
 // The copy of a mount. Its place after the source is this rest.
+#[inline(always)]
 fn moved_mount(
     alloc: Global,
     mount: &Mount,

@@ -7,9 +7,9 @@ ghost use Rattle.abs_path.specs.place_tree.Places.{IsLastAt, IsLastLeading};
 ghost use Rattle.kern_mounts.specs.Table.{Knows, places_of};
 ghost use Rattle.kern_mounts.specs.Mounts.{steps_of};
 
+use super::known::KnownPlaces;
 use crate::step::Mount;
 use abs_path::AbsPath;
-use abs_path::place_tree::PlaceTree;
 
 // The number of the last mount that leads to the path, among the mounts after the first `known`.
 fn last_behind(mounts: &[Mount], known: usize, path: &AbsPath) -> Option<usize>
@@ -29,7 +29,7 @@ fn last_behind(mounts: &[Mount], known: usize, path: &AbsPath) -> Option<usize>
 /// Returns the number of the last mount that leads to the path. The tree has the places of the first `known` mounts.
 pub(crate) fn last_leading(
     mounts: &[Mount],
-    places: &PlaceTree,
+    places: &KnownPlaces,
     known: usize,
     path: &AbsPath,
 ) -> Option<usize>

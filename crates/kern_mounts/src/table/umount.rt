@@ -8,10 +8,10 @@ ghost use Rattle.kern_mounts.specs.Split.{Table};
 ghost use Rattle.kern_mounts.specs.Table.{Knows};
 ghost use Rattle.kern_mounts.specs.Umount.{after_umount};
 
+use super::known::KnownPlaces;
 use super::{MountTable, later_than};
 use crate::step::Mount;
 use abs_path::AbsPath;
-use abs_path::place_tree::PlaceTree;
 use linux_numbers::errnos::{EBUSY, EINVAL};
 
 // The most places that the tree keeps when one of them is removed: it renumbers each place that it keeps.
@@ -47,15 +47,13 @@ impl MountTable {
 }
 
 // Returns how many places are still known once the mount of this number is removed, and perhaps later mounts too.
-fn known_still(places: &mut PlaceTree, known: usize, at: usize) -> usize
+fn known_still(places: &mut KnownPlaces, known: usize, at: usize) -> usize
     ensures knows_those { (table rest : Table) → Knows known table places.old → at ≤ length table → Knows result (take at table ++ rest) places.new }
 {
     if known <= at {
         return known;
     }
-    let left = at.min(MOST_LEFT);
-    places.truncate(left);
-    left
+    places.keep(at.min(MOST_LEFT))
 }
 
 // Whether one of these mounts is strictly below the path.

@@ -9,5 +9,5 @@ returns-then-known-at c =
 pub returns : goal.returns
 returns c = record {
   knows_those = λ table rest knows le. knows_less table rest _ _ _ _ _ knows (omega (arith, c.if-known-at.false))
-      (omega arith) c.truncate.ensures.first_stay;
+      (omega (arith, c.keep.ensures.few)) c.keep.ensures.first_stay;
 }
