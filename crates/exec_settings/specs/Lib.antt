@@ -28,6 +28,7 @@ pub use Rattle.filter_settings.specs.call_table as call_table
 pub use Rattle.cred_settings.specs.cap_sets as cap_sets
 pub use Rattle.cred_settings.specs.dropin_merge as dropin_merge
 pub use Rattle.cred_settings.specs.host_io as host_io
+pub use Rattle.filter_settings.specs.linux_numbers as linux_numbers
 pub use Rattle.mount_settings.specs.path_settings as path_settings
 pub use Rattle.cred_settings.specs.site_table as site_table
 pub use Rattle.cred_settings.specs.text_forms as text_forms

@@ -41,8 +41,7 @@ pub use cred_settings::{
 };
 pub use errors::SettingsError;
 pub use filter_settings::filter_rules::{
-    Filter, FilterName, FilterSettings, NamespaceType, all_types, allowed_calls, allows_call,
-    permits_family,
+    Filter, FilterName, FilterSettings, all_types, allowed_calls, allows_call, permits_family,
 };
 pub use filter_settings::{
     CallLine, CallTable, CallsCause, CallsError, GroupLine, Kernel, filter_settings, name_at,

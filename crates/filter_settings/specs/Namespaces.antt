@@ -15,10 +15,11 @@ use Rattle.dropin_merge.specs.declared.unit_values.value.FileNote.{FileNote}
 use Rattle.dropin_merge.specs.declared.unit_values.value.Value.{Value}
 use Rattle.dropin_merge.specs.unit_values.Listed.{is_reset, unit_listed, unit_listed_notes}
 use Rattle.dropin_merge.specs.unit_values.Notes.{notes_at}
-use Rattle.filter_settings.specs.declared.filter_rules.namespace_types.NamespaceType.{NamespaceType}
-use Rattle.filter_settings.specs.declared.filter_rules.namespace_types.NamespaceType.TheVariants.{Cgroup, Ipc, Net, Mnt, Pid, User, Uts}
+use Rattle.filter_settings.specs.linux_numbers.declared.namespaces.NamespaceType.{NamespaceType}
+use Rattle.filter_settings.specs.linux_numbers.declared.namespaces.NamespaceType.TheVariants.{Cgroup, Ipc, Net, Mnt, Pid, User, Uts}
 use Rattle.filter_settings.specs.declared.filter_rules.namespace_types.NamespaceTypes.{NamespaceTypes}
-use Rattle.filter_settings.specs.filter_rules.NamespaceTypes.{all_types, name_of}
+use Rattle.filter_settings.specs.filter_rules.NamespaceTypes.{all_types}
+use Rattle.filter_settings.specs.linux_numbers.Namespaces.{name_of}
 use Rattle.filter_settings.specs.Lines.{in_force}
 
 -- the value as a boolean

@@ -4,7 +4,7 @@ use Rattle.dropin_merge.specs.unit_names.declared.version.Version.{Version}
 use Rattle.dropin_merge.specs.declared.unit_values.listed.Listed.{Listed}
 use Rattle.dropin_merge.specs.unit_values.Listed.{is_reset}
 use Rattle.filter_settings.specs.declared.filter_rules.mentions.Mode.{Mode}
-use Rattle.filter_settings.specs.declared.filter_rules.namespace_types.NamespaceType.{NamespaceType}
+use Rattle.filter_settings.specs.linux_numbers.declared.namespaces.NamespaceType.{NamespaceType}
 use Rattle.filter_settings.specs.declared.filter_rules.namespace_types.NamespaceTypes.{NamespaceTypes}
 use Rattle.filter_settings.specs.filter_rules.NamespaceTypes.{permits}
 use Rattle.filter_settings.specs.Modes.{mode_of}

@@ -34,6 +34,6 @@ pub use giving_up::may_give_up;
 pub use installed::{Filter, filters};
 pub use mentions::{CallList, FamilyList, FamilyMention, FamilyMentions, Mention, Mentions, Mode};
 pub use names::{FilterName, FilterPlace};
-pub use namespace_types::{NamespaceType, NamespaceTypes, all_types};
+pub use namespace_types::{NamespaceTypes, all_types};
 pub use personality::Domain;
 pub use settings::{FilterSettings, marks_memory};

@@ -4,8 +4,9 @@ ghost use Rattle.filter_settings.specs.Namespaces.{switch_of, is_plain, begins, 
 ghost use Rattle.std.specs.List.{list_all};
 ghost use Rattle.filter_settings.specs.Steps.{next_type, next_types, types_behind, next_begun, begun_behind};
 
-use crate::filter_rules::{NamespaceType, NamespaceTypes, all_types};
+use crate::filter_rules::{NamespaceTypes, all_types};
 use call_rules::read_bool;
+use dropin_merge::linux_numbers::namespaces::NamespaceType;
 use dropin_merge::unit_values::{FileNote, Line, Listed, Said, Value, lines_of_key, note_value};
 use dropin_merge::{NoteCause, Resolved, Text, Version};
 use std::alloc::{AllocError, Global};

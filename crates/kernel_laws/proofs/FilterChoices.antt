@@ -21,9 +21,9 @@ use Rattle.filter_settings.specs.call_table.declared.call_names.kernel.Kernel.{K
 use Rattle.filter_settings.specs.call_table.declared.call_names.kernel.Kernel.TheVariants as by_kernel
 use Rattle.filter_settings.specs.declared.filter_rules.mentions.FamilyList.{FamilyList}
 use Rattle.filter_settings.specs.declared.filter_rules.names.FilterName.TheVariants as filter
-use Rattle.filter_settings.specs.declared.filter_rules.namespace_types.NamespaceType.{NamespaceType}
+use Rattle.filter_settings.specs.linux_numbers.declared.namespaces.NamespaceType.{NamespaceType}
 use Rattle.filter_settings.specs.declared.filter_rules.namespace_types.NamespaceTypes.{NamespaceTypes}
-use Rattle.filter_settings.specs.filter_rules.NamespaceTypes as spaces
+use Rattle.filter_settings.specs.linux_numbers.Namespaces as spaces
 use Rattle.filter_settings.specs.filter_rules.Actions.{low, meets, has_bits, unless_refused, is_one_of}
 use Rattle.filter_settings.specs.filter_rules.Families.{refuses_family, is_listed_family, is_refused_by}
 use Rattle.filter_settings.specs.declared.filter_rules.mentions.Mode.{Mode}
@@ -47,10 +47,9 @@ use Rattle.kernel_model.specs.kernel_calls.Operation as d
 use Rattle.kernel_model.specs.kernel_calls.Operation.{Operation, bare, operation_by}
 use Rattle.kernel_laws.specs.declared.question_types.kind.CallKind.{CallKind}
 use Rattle.kernel_laws.specs.declared.question_types.kind.CallKind.TheVariants as k
-use Rattle.filter_settings.specs.declared.filter_rules.namespace_types.NamespaceType.TheVariants as namespace
+use Rattle.filter_settings.specs.linux_numbers.declared.namespaces.NamespaceType.TheVariants as namespace
 use Rattle.kernel_laws.specs.declared.question_types.wish.Wish.TheVariants as wish_to
 use Rattle.kernel_laws.specs.Kinds.{asks, words, wide_words, made_words, one_word, no_words}
-use Rattle.kernel_laws.specs.Questions as q
 use Rattle.filter_settings.specs.call_table.call_names.Known.{place_of}
 use Rattle.filter_settings.specs.call_table.declared.call_names.rule.Argument.{Argument}
 use Rattle.filter_settings.specs.call_table.declared.call_names.rule.Argument.TheVariants as argument
@@ -320,7 +319,7 @@ kind-SetMode (k.ForPath wish) args first at h e = no_wish (d.SetMode (low_word a
 kind-SetMode k.SetsMode args first at h e = id_bit (low_word args (place_of at)) h
 kind-SetMode kind args first at h e = cc
 
-flag_low : (space : NamespaceType) → q.flag_of space % 2 ^ 32 ≡ q.flag_of space
+flag_low : (space : NamespaceType) → spaces.flag_of space % 2 ^ 32 ≡ spaces.flag_of space
 flag_low namespace.Cgroup = refl
 flag_low namespace.Ipc = refl
 flag_low namespace.Net = refl
@@ -338,11 +337,11 @@ more_bits flag flags mask h g = within-from_IsWithin mask flags
 abbrev MoreBits : List ℕ → List ℕ → Type 0
 MoreBits args first = (mask : ℕ) → has_bits (low_word first 0) mask ≡ true → has_bits (low_word args 0) mask ≡ true
 
-space_bits : (space : NamespaceType) (args first : List ℕ) → has_all (q.flag_of space) (low_word args 0) ≡ true
-    → Some (one_word 0 (q.flag_of space)) ≡ Some first → MoreBits args first
+space_bits : (space : NamespaceType) (args first : List ℕ) → has_all (spaces.flag_of space) (low_word args 0) ≡ true
+    → Some (one_word 0 (spaces.flag_of space)) ≡ Some first → MoreBits args first
 space_bits space args first h e mask g =
-    let low' : low_word first 0 ≡ q.flag_of space = ap (λ (w : List ℕ). low_word w 0) (sym (first_is (one_word 0 (q.flag_of space)) first e)) ∙ flag_low space in
-    more_bits (q.flag_of space) (low_word args 0) mask h (ap (λ n. has_bits n mask) (sym low') ∙ g)
+    let low' : low_word first 0 ≡ spaces.flag_of space = ap (λ (w : List ℕ). low_word w 0) (sym (first_is (one_word 0 (spaces.flag_of space)) first e)) ∙ flag_low space in
+    more_bits (spaces.flag_of space) (low_word args 0) mask h (ap (λ n. has_bits n mask) (sym low') ∙ g)
 
 kind-Unshare : (kind : CallKind) (args first : List ℕ) → asks kind (d.Unshare (low_word args 0)) ≡ true
     → words kind (rule.Known known.Unshare) ≡ Some first → MoreBits args first

@@ -33,7 +33,7 @@ use Rattle.kernel_laws.specs.Ceiling.{TableIn, IsStable, IsSafe}
 use Rattle.kernel_laws.specs.Kinds.{asks}
 use Rattle.kernel_laws.specs.Launched.{Launch, lets}
 use Rattle.kernel_laws.specs.declared.question_types.kind.CallKind.{CallKind}
-use Rattle.filter_settings.specs.declared.filter_rules.namespace_types.NamespaceType.TheVariants.{User}
+use Rattle.filter_settings.specs.linux_numbers.declared.namespaces.NamespaceType.TheVariants.{User}
 use Rattle.kernel_laws.specs.declared.question_types.power.Power.{Power}
 use Rattle.kernel_laws.specs.declared.question_types.kind.CallKind.TheVariants as k
 use Rattle.kernel_laws.proofs.MaskBits.{user_flag}

@@ -33,7 +33,7 @@ use Rattle.kernel_model.specs.Runs.{run}
 use Rattle.kernel_laws.specs.declared.question_types.power.Power.{Power}
 use Rattle.kernel_laws.specs.declared.question_types.kind.CallKind.{CallKind}
 use Rattle.kernel_laws.specs.declared.question_types.kind.CallKind.TheVariants.{TakesUid, TakesGid, ForNamespace}
-use Rattle.filter_settings.specs.declared.filter_rules.namespace_types.NamespaceType.TheVariants.{User}
+use Rattle.filter_settings.specs.linux_numbers.declared.namespaces.NamespaceType.TheVariants.{User}
 use Rattle.kernel_laws.specs.Kinds.{asks}
 use Rattle.kernel_laws.specs.Launched.{Launch, data_at, lets, can_make_user}
 use Rattle.kernel_laws.specs.Ceiling.{CanHold, IsClosed, IsHeld, AreHeld, IsSafe, IsStable, TableIn}

@@ -26,8 +26,8 @@ use Rattle.kernel_model.specs.kernel_calls.Operation.{Operation, operation_by}
 use Rattle.kernel_laws.specs.FirstChoice.{LetAsWell, Means, SettingsChoose}
 use Rattle.kernel_laws.specs.declared.question_types.kind.CallKind.{CallKind}
 use Rattle.kernel_laws.specs.declared.question_types.kind.CallKind.TheVariants as k
-use Rattle.filter_settings.specs.declared.filter_rules.namespace_types.NamespaceType.{NamespaceType}
-use Rattle.filter_settings.specs.declared.filter_rules.namespace_types.NamespaceType.TheVariants as namespace
+use Rattle.filter_settings.specs.linux_numbers.declared.namespaces.NamespaceType.{NamespaceType}
+use Rattle.filter_settings.specs.linux_numbers.declared.namespaces.NamespaceType.TheVariants as namespace
 use Rattle.kernel_laws.specs.declared.question_types.wish.Wish.TheVariants as wish_to
 use Rattle.kernel_laws.specs.declared.question_types.wish.Wish.{Wish}
 use Rattle.kernel_laws.specs.Kinds.{asks, words, wide_words, made_words, one_word, no_words, AreWords}
@@ -36,7 +36,7 @@ use Rattle.filter_settings.specs.filter_rules.Wanted.{other_action}
 use Rattle.std.specs.Option.{option_to_list, option_or}
 use Rattle.std.proofs.lemmas.Bool.{false≢true}
 use Rattle.kernel_laws.specs.Launched.{Launch, data_at, passes, is_pass, lets_words, Chosen}
-use Rattle.kernel_laws.specs.Questions as q
+use Rattle.filter_settings.specs.linux_numbers.Namespaces as spaces
 use Rattle.kernel_model.specs.declared.kernel_calls.rule.Rule.TheVariants as rule
 use Rattle.filter_settings.specs.call_table.declared.call_names.rule.CallRule.{CallRule}
 use Rattle.filter_settings.specs.call_table.declared.call_names.rule.CallRule.TheVariants as known
@@ -81,7 +81,7 @@ made_small at =
 by_same : (one first : List ℕ) → AreWords one → Some one ≡ Some first → AreWords first
 by_same one first h e = let same : one ≡ first = cc in subst AreWords same h
 
-flag_small : (space : NamespaceType) → q.flag_of space < 2 ^ 64
+flag_small : (space : NamespaceType) → spaces.flag_of space < 2 ^ 64
 flag_small namespace.Cgroup = omega arith
 flag_small namespace.Ipc = omega arith
 flag_small namespace.Net = omega arith
@@ -118,10 +118,10 @@ known_fit (k.ForFamily family) known.Socketpair first h e = pair_fit (eqb family
     pair_fit : (b : Bool) → cond {A = Option (List ℕ)} b (Some (one_word 0 1)) None ≡ Some first → AreWords first
     pair_fit true e = by_same (one_word 0 1) first (word_words 0 1 (omega arith)) e
     pair_fit false e = cc
-known_fit (k.ForNamespace space) known.Clone first h e = by_same (one_word 0 (q.flag_of space)) first
-    (word_words 0 (q.flag_of space) (flag_small space)) e
-known_fit (k.ForNamespace space) known.Unshare first h e = by_same (one_word 0 (q.flag_of space)) first
-    (word_words 0 (q.flag_of space) (flag_small space)) e
+known_fit (k.ForNamespace space) known.Clone first h e = by_same (one_word 0 (spaces.flag_of space)) first
+    (word_words 0 (spaces.flag_of space) (flag_small space)) e
+known_fit (k.ForNamespace space) known.Unshare first h e = by_same (one_word 0 (spaces.flag_of space)) first
+    (word_words 0 (spaces.flag_of space) (flag_small space)) e
 known_fit (k.ForNamespace space) known.Clone3 first h e = by_same no_words first bare_words e
 known_fit k.MapsWx known.Map first h e = by_same (one_word 2 6) first (word_words 2 6 (omega arith)) e
 known_fit k.ProtectsX known.Protect first h e = by_same (one_word 2 4) first (word_words 2 4 (omega arith)) e

@@ -32,9 +32,9 @@ use Rattle.kernel_laws.proofs.MaskBits.{user_flag}
 use Rattle.kernel_model.specs.Runs.{IsDone}
 use Rattle.kernel_laws.specs.declared.question_types.wish.Wish.{Wish}
 use Rattle.kernel_laws.specs.declared.question_types.wish.Wish.TheVariants.{See as ToSee, Read as ToRead, Write as ToWrite, Exec as ToExec}
-use Rattle.filter_settings.specs.declared.filter_rules.namespace_types.NamespaceType.{NamespaceType}
-use Rattle.filter_settings.specs.declared.filter_rules.namespace_types.NamespaceType.TheVariants as namespace
-use Rattle.kernel_laws.specs.Questions.{flag_of}
+use Rattle.filter_settings.specs.linux_numbers.declared.namespaces.NamespaceType.{NamespaceType}
+use Rattle.filter_settings.specs.linux_numbers.declared.namespaces.NamespaceType.TheVariants as namespace
+use Rattle.filter_settings.specs.linux_numbers.Namespaces.{flag_of}
 use Rattle.kernel_laws.specs.Denied.{path_for, asks_space, asks_map, asks_attach}
 use Rattle.kernel_laws.specs.Kinds.{asks_attach_read}
 use Rattle.kernel_laws.specs.Reach.{fits}

@@ -38,7 +38,7 @@ use Rattle.kernel_model.specs.kern_files.UmountCall.{umount_answer, mnt_detach}
 use Rattle.kernel_laws.specs.declared.question_types.power.Power.{Power}
 use Rattle.kernel_laws.specs.declared.question_types.power.Power.TheVariants.{None as Nowise, Unmount as Unmounting, Mount as Mounting}
 use Rattle.kernel_laws.specs.declared.question_types.kind.CallKind.{CallKind}
-use Rattle.filter_settings.specs.declared.filter_rules.namespace_types.NamespaceType.TheVariants.{User}
+use Rattle.filter_settings.specs.linux_numbers.declared.namespaces.NamespaceType.TheVariants.{User}
 use Rattle.kernel_laws.specs.declared.question_types.kind.CallKind.TheVariants as k
 use Rattle.kernel_laws.specs.Kinds.{asks}
 use Rattle.kernel_laws.specs.Launched.{Launch, lets}

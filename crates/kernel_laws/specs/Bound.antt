@@ -23,8 +23,8 @@ use Rattle.kernel_laws.specs.declared.question_types.kind.CallKind.TheVariants.{
 use Rattle.kernel_laws.specs.declared.question_types.kind.CallKind.TheVariants.{TakesGid}
 use Rattle.kernel_laws.specs.declared.question_types.wish.Wish.{Wish}
 use Rattle.kernel_laws.specs.declared.question_types.wish.Wish.TheVariants.{See as ToSee, Read as ToRead, Write as ToWrite, Exec as ToExec}
-use Rattle.filter_settings.specs.declared.filter_rules.namespace_types.NamespaceType.{NamespaceType}
-use Rattle.filter_settings.specs.declared.filter_rules.namespace_types.NamespaceType.TheVariants.{User}
+use Rattle.filter_settings.specs.linux_numbers.declared.namespaces.NamespaceType.{NamespaceType}
+use Rattle.filter_settings.specs.linux_numbers.declared.namespaces.NamespaceType.TheVariants.{User}
 use Rattle.kernel_laws.specs.declared.question_types.question.Question.{Question}
 use Rattle.kernel_laws.specs.declared.question_types.question.Question.TheVariants.{Path as ByPath, Call, Socket, Namespace as Ns, MapWx}
 use Rattle.kernel_laws.specs.declared.question_types.question.Question.TheVariants.{ProtectX, ShmX, Realtime, Personality, SuidBit, Cap}

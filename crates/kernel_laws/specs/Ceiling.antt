@@ -16,7 +16,7 @@ use Rattle.kernel_model.specs.kern_mounts.Unmounts.{IsTrimmed}
 use Rattle.kernel_laws.specs.declared.question_types.power.Power.{Power}
 use Rattle.kernel_laws.specs.declared.question_types.power.Power.TheVariants.{None as Nowise, Unmount as Unmounting, Mount as Mounting}
 use Rattle.kernel_laws.specs.declared.question_types.kind.CallKind.TheVariants.{ForNamespace, ChangesMounts, RemovesMounts, SetsCaps}
-use Rattle.filter_settings.specs.declared.filter_rules.namespace_types.NamespaceType.TheVariants.{User}
+use Rattle.filter_settings.specs.linux_numbers.declared.namespaces.NamespaceType.TheVariants.{User}
 use Rattle.kernel_model.specs.Effects.{Effect, Refuse, Answer, SetCreds, SetTable, Push, Child, OwnTable, UserChild, OwnUser, End}
 use Rattle.kernel_model.specs.kern_files.Looking.{flags_at}
 use Rattle.kernel_model.specs.kern_files.Executing.{marks_of}

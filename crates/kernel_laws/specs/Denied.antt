@@ -25,12 +25,12 @@ use Rattle.kernel_model.specs.World.{World, process_of, living_of, table_of}
 use Rattle.kernel_model.specs.Runs.{Moment, moments, run, IsDone, AllDone}
 use Rattle.kernel_laws.specs.declared.question_types.wish.Wish.{Wish}
 use Rattle.kernel_laws.specs.declared.question_types.wish.Wish.TheVariants.{See as ToSee, Read as ToRead, Write as ToWrite, Exec as ToExec}
-use Rattle.filter_settings.specs.declared.filter_rules.namespace_types.NamespaceType.{NamespaceType}
+use Rattle.filter_settings.specs.linux_numbers.declared.namespaces.NamespaceType.{NamespaceType}
 use Rattle.kernel_laws.specs.declared.question_types.question.Question.{Question}
 use Rattle.kernel_laws.specs.declared.question_types.question.Question.TheVariants.{Path as ByPath, Call, Socket, Namespace as Ns, MapWx}
 use Rattle.kernel_laws.specs.declared.question_types.question.Question.TheVariants.{ProtectX, ShmX, Realtime, Personality, SuidBit, Cap}
 use Rattle.kernel_laws.specs.declared.question_types.question.Question.TheVariants.{Uid, Gid}
-use Rattle.kernel_laws.specs.Questions.{flag_of}
+use Rattle.filter_settings.specs.linux_numbers.Namespaces.{flag_of}
 
 -- the path that a call sees, reads, writes or executes, as wished: stat(2) and similar calls see, open(2) reads and writes by
 -- its access mode, creat(2) and truncate(2) write, execve(2) executes

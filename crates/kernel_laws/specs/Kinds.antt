@@ -22,8 +22,8 @@ use Rattle.kernel_laws.specs.declared.question_types.kind.CallKind.TheVariants.{
 use Rattle.kernel_laws.specs.declared.question_types.kind.CallKind.TheVariants.{TakesPersonality}
 use Rattle.kernel_laws.specs.declared.question_types.kind.CallKind.TheVariants.{SetsMode, OpensMode, ChangesMounts, RemovesMounts, SetsCaps, TakesUid}
 use Rattle.kernel_laws.specs.declared.question_types.kind.CallKind.TheVariants.{TakesGid}
-use Rattle.filter_settings.specs.declared.filter_rules.namespace_types.NamespaceType.{NamespaceType}
-use Rattle.kernel_laws.specs.Questions.{flag_of}
+use Rattle.filter_settings.specs.linux_numbers.declared.namespaces.NamespaceType.{NamespaceType}
+use Rattle.filter_settings.specs.linux_numbers.Namespaces.{flag_of}
 use Rattle.kernel_laws.specs.Denied.{path_for, asks_space, asks_map, asks_protect, asks_attach, is_realtime, asks_personality, has_id_bit}
 use Rattle.kernel_laws.specs.Denied.{makes_file}
 

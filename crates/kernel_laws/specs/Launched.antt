@@ -33,7 +33,7 @@ use Rattle.kernel_model.specs.World.{World, of_number, process_of, namespace_of,
 use Rattle.kernel_laws.specs.Kinds.{asks, words, wide_words, AreWords}
 use Rattle.kernel_laws.specs.declared.question_types.kind.CallKind.{CallKind}
 use Rattle.kernel_laws.specs.declared.question_types.kind.CallKind.TheVariants.{ForNamespace, SetsCaps}
-use Rattle.filter_settings.specs.declared.filter_rules.namespace_types.NamespaceType.TheVariants.{User}
+use Rattle.filter_settings.specs.linux_numbers.declared.namespaces.NamespaceType.TheVariants.{User}
 
 -- the table of calls and the site that the kernel is given, and process 1: its credentials(7), its filters (seccomp(2)), the oldest
 -- first, and its mount table (mount_namespaces(7))

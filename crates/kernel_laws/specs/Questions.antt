@@ -7,8 +7,8 @@ use Rattle.filter_settings.specs.call_table.Members.{is_first}
 use Rattle.kernel_model.specs.site_table.declared.row.Row.{Row}
 use Rattle.kernel_model.specs.site_table.Kinds.{is_dir, is_exe}
 use Rattle.kernel_model.specs.site_table.Table.{Site}
-use Rattle.filter_settings.specs.declared.filter_rules.namespace_types.NamespaceType.{NamespaceType}
-use Rattle.filter_settings.specs.declared.filter_rules.namespace_types.NamespaceType.TheVariants.{Cgroup, Ipc, Net, Mnt, Pid, User, Uts}
+use Rattle.filter_settings.specs.linux_numbers.declared.namespaces.NamespaceType.{NamespaceType}
+use Rattle.filter_settings.specs.linux_numbers.declared.namespaces.NamespaceType.TheVariants.{Cgroup, Ipc, Net, Mnt, Pid, User, Uts}
 use Rattle.kernel_laws.specs.declared.question_types.question.Question.{Question}
 use Rattle.kernel_laws.specs.declared.question_types.question.Question.TheVariants.{Path as ByPath, Call, Socket, Namespace as Ns, MapWx}
 use Rattle.kernel_laws.specs.declared.question_types.question.Question.TheVariants.{ProtectX, ShmX, Realtime, Personality, SuidBit, Cap}
@@ -17,16 +17,6 @@ use Rattle.kernel_laws.specs.declared.question_types.wish.Wish.TheVariants.{See 
 use Rattle.kernel_model.specs.declared.kernel_calls.rule.Rule.{Rule}
 use Rattle.kernel_model.specs.declared.kernel_calls.rule.Rule.TheVariants.{Plain}
 use Rattle.kernel_model.specs.kernel_calls.Rules.{rule_of}
-
--- the flag of each namespace type: CLONE_NEWCGROUP and the others, clone(2)
-abbrev pub flag_of : NamespaceType → ℕ
-flag_of Cgroup = 0x200_0000
-flag_of Ipc = 0x800_0000
-flag_of Net = 0x4000_0000
-flag_of Mnt = 0x2_0000
-flag_of Pid = 0x2000_0000
-flag_of User = 0x1000_0000
-flag_of Uts = 0x400_0000
 
 -- a call whose name the kernel does not know: all that can be asked of it is whether it is done
 abbrev pub is_plain : Option Rule → Bool

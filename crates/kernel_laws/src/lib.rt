@@ -49,7 +49,7 @@ pub fn blindness()
 
 pub mod question_types;
 
-pub use filter_settings::filter_rules::NamespaceType;
+pub use filter_settings::linux_numbers::namespaces::NamespaceType;
 pub use filter_settings::{
     CallData, CallLine, CallTable, CallsError, Decision, Insn, Program, is_known, linux_numbers,
     read_calls,

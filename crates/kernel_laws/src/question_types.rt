@@ -10,7 +10,7 @@ mod question;
 mod verdict;
 mod wish;
 
-pub use filter_settings::filter_rules::NamespaceType;
+pub use filter_settings::linux_numbers::namespaces::NamespaceType;
 pub use kind::CallKind;
 pub use power::Power;
 pub use question::Question;

@@ -9,6 +9,8 @@ use Rattle.site_table.specs.abs_path.Paths.{Path}
 use Rattle.kern_mounts.specs.linux_numbers.Errnos.{eperm, ebadf, eacces, einval, enomem, eopnotsupp, eafnosupport}
 use Rattle.kern_mounts.specs.linux_numbers.Capabilities.{cap_sys_admin, cap_sys_nice, cap_last_cap}
 use Rattle.kern_mounts.specs.linux_numbers.Limits.{max_insns_per_path, no_id}
+use Rattle.kern_mounts.specs.linux_numbers.Namespaces.{flag_of}
+use Rattle.kern_mounts.specs.linux_numbers.declared.namespaces.NamespaceType.TheVariants.{Mnt, User}
 use Rattle.call_table.specs.declared.listed.CallLine.{CallLine}
 use Rattle.call_table.specs.Lookups.{numbered}
 use Rattle.site_table.specs.declared.row.Row.{Row}
@@ -178,11 +180,11 @@ thread_flag = 0x1_0000
 
 -- CLONE_NEWNS: a mount namespace of its own
 abbrev pub newns : ℕ
-newns = 0x2_0000
+newns = flag_of Mnt
 
 -- CLONE_NEWUSER: a user namespace of its own
 abbrev pub newuser : ℕ
-newuser = 0x1000_0000
+newuser = flag_of User
 
 -- the six other namespaces of namespaces(7): CLONE_NEWNS, CLONE_NEWCGROUP, CLONE_NEWUTS, CLONE_NEWIPC, CLONE_NEWPID and
 -- CLONE_NEWNET

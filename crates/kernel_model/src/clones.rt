@@ -8,18 +8,21 @@ use crate::reply::Reply;
 use kern_creds::Creds;
 use kern_mounts::linux_numbers::capabilities::CAP_SYS_ADMIN;
 use kern_mounts::linux_numbers::errnos::{EINVAL, EPERM};
+use kern_mounts::linux_numbers::namespaces::{
+    CLONE_NEWCGROUP, CLONE_NEWIPC, CLONE_NEWNET, CLONE_NEWNS, CLONE_NEWPID, CLONE_NEWUSER,
+    CLONE_NEWUTS,
+};
 
 // CLONE_THREAD: the child is a thread of the caller.
 const CLONE_THREAD: u32 = 0x1_0000;
 
-// CLONE_NEWNS: a mount namespace of its own.
-const CLONE_NEWNS: u32 = 0x2_0000;
-
-// CLONE_NEWUSER: a user namespace of its own.
-const CLONE_NEWUSER: u32 = 0x1000_0000;
-
-// CLONE_NEWNS, CLONE_NEWCGROUP, CLONE_NEWUTS, CLONE_NEWIPC, CLONE_NEWPID and CLONE_NEWNET, namespaces(7).
-const OTHER_SPACES: u32 = 0x6e02_0000;
+// The flags of all types of namespaces but user namespaces.
+const OTHER_SPACES: u32 = CLONE_NEWNS
+    | CLONE_NEWCGROUP
+    | CLONE_NEWUTS
+    | CLONE_NEWIPC
+    | CLONE_NEWPID
+    | CLONE_NEWNET;
 
 // The bits that name no namespace.
 const NO_SPACES: u32 = !(OTHER_SPACES | CLONE_NEWUSER);

@@ -6,11 +6,11 @@ use Rattle.launcher.specs.call_table.declared.call_names.rule.Argument.{Argument
 use Rattle.launcher.specs.call_table.declared.call_names.rule.CallRule.TheVariants as known
 use Rattle.launcher.specs.kernel_model.declared.kernel_calls.rule.Rule.{Rule}
 use Rattle.launcher.specs.kernel_model.declared.kernel_calls.rule.Rule.TheVariants as rule
-use Rattle.launcher.specs.filter_settings.declared.filter_rules.namespace_types.NamespaceType.{NamespaceType}
+use Rattle.launcher.specs.linux_numbers.declared.namespaces.NamespaceType.{NamespaceType}
 use Rattle.launcher.specs.kernel_laws.declared.question_types.kind.CallKind.{CallKind}
 use Rattle.launcher.specs.kernel_laws.declared.question_types.wish.Wish.TheVariants as wish_to
 use Rattle.launcher.specs.kernel_laws.declared.question_types.kind.CallKind.TheVariants as k
-use Rattle.launcher.specs.kernel_laws.Questions.{flag_of}
+use Rattle.launcher.specs.linux_numbers.Namespaces.{flag_of}
 use Rattle.launcher.specs.kernel_laws.Kinds.{words, wide_words, made_words, no_words, one_word}
 use Rattle.launcher.specs.kernel_laws.Launched.{Launch, chosen_words, lets_words}
 

@@ -37,13 +37,13 @@ use Rattle.launcher.specs.kernel_model.declared.reply.Reply.{Reply}
 use Rattle.launcher.specs.kernel_model.declared.reply.Reply.TheVariants as reply
 use Rattle.launcher.specs.kernel_laws.Bound.{is_user}
 use Rattle.launcher.specs.kernel_laws.Denied.{asks_space}
-use Rattle.launcher.specs.filter_settings.declared.filter_rules.namespace_types.NamespaceType.{NamespaceType}
+use Rattle.launcher.specs.linux_numbers.declared.namespaces.NamespaceType.{NamespaceType}
 use Rattle.launcher.specs.kernel_laws.declared.question_types.wish.Wish.TheVariants.{Exec as ToExec}
 use Rattle.launcher.specs.kernel_laws.declared.question_types.kind.CallKind.TheVariants as k
-use Rattle.launcher.specs.filter_settings.declared.filter_rules.namespace_types.NamespaceType.TheVariants as namespace
+use Rattle.launcher.specs.linux_numbers.declared.namespaces.NamespaceType.TheVariants as namespace
 use Rattle.launcher.specs.kernel_laws.Kinds.{AreWords, no_words, one_word, space_payload}
 use Rattle.launcher.specs.kernel_laws.Launched.{Launch}
-use Rattle.launcher.specs.kernel_laws.Questions.{flag_of}
+use Rattle.launcher.specs.linux_numbers.Namespaces.{flag_of}
 use Rattle.launcher.specs.kernel_laws.Reach.{fits}
 use Rattle.kernel_ways.specs.Entering.{pid_in, IsEntered, MakesIn, newer_at}
 use Rattle.kernel_ways.specs.Showing.{IsDoable}

@@ -25,9 +25,9 @@ use Rattle.launcher.specs.kernel_model.kernel_calls.Operation.{Operation, operat
 use Rattle.launcher.specs.kernel_model.Effects.{Effect, effect_of}
 use Rattle.launcher.specs.kernel_laws.declared.question_types.kind.CallKind.{CallKind}
 use Rattle.launcher.specs.kernel_laws.Kinds.{no_words, AreWords}
-use Rattle.launcher.specs.filter_settings.declared.filter_rules.namespace_types.NamespaceType.{NamespaceType}
-use Rattle.launcher.specs.filter_settings.declared.filter_rules.namespace_types.NamespaceType.TheVariants as namespace
-use Rattle.launcher.specs.kernel_laws.Questions.{flag_of}
+use Rattle.launcher.specs.linux_numbers.declared.namespaces.NamespaceType.{NamespaceType}
+use Rattle.launcher.specs.linux_numbers.declared.namespaces.NamespaceType.TheVariants as namespace
+use Rattle.launcher.specs.linux_numbers.Namespaces.{flag_of}
 use Rattle.launcher.specs.kernel_laws.Launched.{Launch, IsLaunched, data_at, passes, is_pass, chosen_words, lets_words, lets_rule, lets_line, lets}
 use Rattle.launcher.specs.kern_mounts.Split.{Table}
 use Rattle.launcher.proofs.OfKernelLaws.Filters.{at_position, slice_all}

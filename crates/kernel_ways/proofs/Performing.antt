@@ -29,14 +29,14 @@ use Rattle.launcher.specs.kernel_model.Effects.{Effect, effect_of, looks, with_c
 use Rattle.launcher.specs.kernel_laws.Bound.{is_user}
 use Rattle.launcher.specs.kernel_laws.Denied.{asks_space, asks_attach, asks_mode, asks_realtime}
 use Rattle.launcher.specs.kernel_laws.declared.question_types.kind.CallKind.{CallKind}
-use Rattle.launcher.specs.filter_settings.declared.filter_rules.namespace_types.NamespaceType.{NamespaceType}
+use Rattle.launcher.specs.linux_numbers.declared.namespaces.NamespaceType.{NamespaceType}
 use Rattle.launcher.specs.kernel_laws.declared.question_types.kind.CallKind.TheVariants as kinds
-use Rattle.launcher.specs.filter_settings.declared.filter_rules.namespace_types.NamespaceType.TheVariants as namespace
+use Rattle.launcher.specs.linux_numbers.declared.namespaces.NamespaceType.TheVariants as namespace
 use Rattle.launcher.specs.kernel_laws.Kinds as k
 use Rattle.launcher.specs.kernel_laws.Kinds.{AreWords, asks_attach_read, asks_attributes, asks_plain, asks_schedule, family_payload, no_words, one_word}
 use Rattle.launcher.specs.kernel_laws.Kinds.{asks_made_mode, asks_set_mode, made_words, realtime_payload, space_payload}
 use Rattle.launcher.specs.kernel_laws.Launched.{Launch, passes}
-use Rattle.launcher.specs.kernel_laws.Questions.{flag_of}
+use Rattle.launcher.specs.linux_numbers.Namespaces.{flag_of}
 use Rattle.kernel_ways.specs.Ways.{effect_on, host_at, caller_at, CallAt, IsCallAt, rule_there, passes_at, place_of}
 use Rattle.kernel_ways.proofs.Choices as choices
 use Rattle.kernel_ways.proofs.Operations.{Performed}

@@ -14,7 +14,7 @@ use Rattle.ceilings.specs.kernel_model.Step.{step}
 use Rattle.ceilings.specs.kernel_model.World.{World}
 use Rattle.ceilings.specs.kernel_laws.declared.question_types.kind.CallKind.{CallKind}
 use Rattle.ceilings.specs.kernel_laws.declared.question_types.kind.CallKind.TheVariants.{ForNamespace}
-use Rattle.questions.specs.filter_settings.declared.filter_rules.namespace_types.NamespaceType.TheVariants.{User}
+use Rattle.questions.specs.linux_numbers.declared.namespaces.NamespaceType.TheVariants.{User}
 use Rattle.ceilings.specs.kernel_laws.Kinds.{space_payload}
 use Rattle.ceilings.specs.kernel_laws.Launched.{Launch, IsLaunched, lets, can_make_user}
 use Rattle.ceilings.specs.kernel_ways.Entering.{pid_in, IsEntered}

@@ -4,11 +4,11 @@ use Rattle.std.specs.Prelude.{◌&&◌, ◌||◌, nat_lt}
 use Rattle.std.proofs.lemmas.Bool.{and_parts}
 use Rattle.ceilings.specs.cap_sets.Sets.{has}
 use Rattle.ceilings.specs.linux_numbers.Capabilities.{cap_sys_admin}
-use Rattle.questions.specs.filter_settings.declared.filter_rules.namespace_types.NamespaceType.{NamespaceType}
-use Rattle.questions.specs.filter_settings.declared.filter_rules.namespace_types.NamespaceType.TheVariants as own
+use Rattle.questions.specs.linux_numbers.declared.namespaces.NamespaceType.{NamespaceType}
+use Rattle.questions.specs.linux_numbers.declared.namespaces.NamespaceType.TheVariants as own
 use Rattle.ceilings.specs.kernel_laws.Bound.{ceiling, is_open, is_user}
 use Rattle.ceilings.specs.kernel_laws.declared.question_types.kind.CallKind.TheVariants.{ForNamespace}
-use Rattle.questions.specs.filter_settings.declared.filter_rules.namespace_types.NamespaceType.TheVariants.{User}
+use Rattle.questions.specs.linux_numbers.declared.namespaces.NamespaceType.TheVariants.{User}
 use Rattle.ceilings.specs.kernel_laws.declared.question_types.question.Question.TheVariants.{Namespace as Ns}
 use Rattle.ceilings.specs.kernel_laws.Launched.{Launch, can_make_user, lets}
 

@@ -22,8 +22,8 @@ use Rattle.ceilings.specs.kernel_laws.declared.question_types.kind.CallKind.{Cal
 use Rattle.ceilings.specs.kernel_laws.declared.question_types.kind.CallKind.TheVariants.{ForFamily, ForPath, ForNamespace, RemovesMounts}
 use Rattle.ceilings.specs.kernel_laws.declared.question_types.kind.CallKind.TheVariants.{OpensMode, SchedulesRealtime, SetsMode, SetsRealtime, TakesUid, TakesGid}
 use Rattle.ceilings.specs.kernel_laws.declared.question_types.question.Question.{Question}
-use Rattle.questions.specs.filter_settings.declared.filter_rules.namespace_types.NamespaceType.{NamespaceType}
-use Rattle.questions.specs.filter_settings.declared.filter_rules.namespace_types.NamespaceType.TheVariants.{User}
+use Rattle.questions.specs.linux_numbers.declared.namespaces.NamespaceType.{NamespaceType}
+use Rattle.questions.specs.linux_numbers.declared.namespaces.NamespaceType.TheVariants.{User}
 use Rattle.ceilings.specs.kernel_laws.declared.question_types.wish.Wish.{Wish}
 use Rattle.ceilings.specs.kernel_laws.declared.question_types.wish.Wish.TheVariants.{Exec as ToExec}
 use Rattle.ceilings.specs.kernel_laws.declared.question_types.power.Power.{Power}
@@ -33,7 +33,7 @@ use Rattle.ceilings.specs.kernel_laws.declared.question_types.question.Question.
 use Rattle.ceilings.specs.kernel_laws.Kinds.{no_words, one_word, realtime_payload, space_payload}
 use Rattle.ceilings.specs.kernel_laws.Launched.{Launch, IsLaunched, lets, can_make_user, launch_of}
 use Rattle.ceilings.specs.kernel_laws.PlainCalls.{bare_call}
-use Rattle.ceilings.specs.kernel_laws.Questions.{flag_of}
+use Rattle.ceilings.specs.linux_numbers.Namespaces.{flag_of}
 use Rattle.ceilings.specs.kernel_laws.Reach.{fits, reaches, runs_marked, runs_unmarked}
 use Rattle.ceilings.specs.kern_mounts.declared.step.Flags.{Flags}
 use Rattle.ceilings.specs.kernel_ways.Entering.{pid_in}

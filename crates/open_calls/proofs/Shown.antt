@@ -25,10 +25,10 @@ use Rattle.ceilings.specs.kernel_laws.Bound.{attaching, is_call_open}
 use Rattle.ceilings.specs.kernel_laws.Denied.{asks_space, asks_family, is_family, Shows}
 use Rattle.ceilings.specs.kernel_laws.Kinds as k
 use Rattle.ceilings.specs.kernel_laws.declared.question_types.kind.CallKind.{CallKind}
-use Rattle.questions.specs.filter_settings.declared.filter_rules.namespace_types.NamespaceType.{NamespaceType}
+use Rattle.questions.specs.linux_numbers.declared.namespaces.NamespaceType.{NamespaceType}
 use Rattle.ceilings.specs.kernel_laws.declared.question_types.question.Question.{Question}
 use Rattle.ceilings.specs.kernel_laws.declared.question_types.kind.CallKind.TheVariants as kinds
-use Rattle.questions.specs.filter_settings.declared.filter_rules.namespace_types.NamespaceType.TheVariants as namespace
+use Rattle.questions.specs.linux_numbers.declared.namespaces.NamespaceType.TheVariants as namespace
 use Rattle.ceilings.specs.kernel_laws.declared.question_types.question.Question.TheVariants as asking
 use Rattle.ceilings.specs.kernel_laws.Launched.{Launch, IsLaunched, launch_of, lets, lets_line, can_make_user}
 use Rattle.ceilings.specs.kernel_laws.PlainCalls.{bare_call}

@@ -11,7 +11,7 @@ ghost use Rattle.open_calls.specs.chosen_calls.Exposing.{IsLead, PassesFor, expo
 ghost use Rattle.open_calls.specs.chosen_calls.First.{line_of};
 ghost use Rattle.ceilings.specs.kernel_laws.declared.question_types.kind.CallKind.TheVariants.{ChangesMounts, ForPath, ForNamespace, RemovesMounts};
 ghost use Rattle.ceilings.specs.kernel_laws.declared.question_types.wish.Wish.TheVariants.{Exec as ToExec};
-ghost use Rattle.questions.specs.filter_settings.declared.filter_rules.namespace_types.NamespaceType.TheVariants.{User};
+ghost use Rattle.questions.specs.linux_numbers.declared.namespaces.NamespaceType.TheVariants.{User};
 ghost use Rattle.ceilings.specs.kernel_laws.declared.question_types.power.Power.{Power as MountPower};
 ghost use Rattle.ceilings.specs.kernel_laws.declared.question_types.power.Power.TheVariants.{Unmount as Unmounting};
 ghost use Rattle.ceilings.specs.kernel_laws.Launched.{IsLaunchedWorld, launch_of, lets};

@@ -4,7 +4,7 @@ ghost use Rattle.std.specs.Prelude.{◌≡◌, true, IfOk};
 ghost use Rattle.open_calls.specs.chosen_calls.Chosen.{call_inside, own_payload, pid_inside, user_call, socket_payload, wish_payload};
 ghost use Rattle.open_calls.specs.chosen_calls.First.{call_by, line_of, own_rule};
 ghost use Rattle.ceilings.specs.kernel_laws.declared.question_types.kind.CallKind.TheVariants.{ForNamespace, ForFamily, ForPath};
-ghost use Rattle.questions.specs.filter_settings.declared.filter_rules.namespace_types.NamespaceType.TheVariants.{User};
+ghost use Rattle.questions.specs.linux_numbers.declared.namespaces.NamespaceType.TheVariants.{User};
 ghost use Rattle.ceilings.specs.kernel_laws.Launched.{Launch, launch_of, lets};
 ghost use Rattle.ceilings.specs.kernel_ways.Taking.{id_call};
 ghost use Rattle.ceilings.specs.kernel_ways.Ways.{place_of};

@@ -12,9 +12,9 @@ use Rattle.report_text.specs.call_table.Lookups.{AreOnce, place_named}
 use Rattle.report_text.specs.call_table.Table as calls
 use Rattle.report_text.specs.kernel_laws.declared.question_types.wish.Wish.TheVariants.{See as ToSee, Read as ToRead, Write as ToWrite}
 use Rattle.report_text.specs.kernel_laws.declared.question_types.wish.Wish.TheVariants.{Exec as ToExec}
-use Rattle.report_text.specs.filter_settings.declared.filter_rules.namespace_types.NamespaceType.{NamespaceType}
-use Rattle.report_text.specs.filter_settings.declared.filter_rules.namespace_types.NamespaceType.TheVariants.{Cgroup, Ipc, Net, Mnt, Pid}
-use Rattle.report_text.specs.filter_settings.declared.filter_rules.namespace_types.NamespaceType.TheVariants.{User, Uts}
+use Rattle.report_text.specs.linux_numbers.declared.namespaces.NamespaceType.{NamespaceType}
+use Rattle.report_text.specs.linux_numbers.declared.namespaces.NamespaceType.TheVariants.{Cgroup, Ipc, Net, Mnt, Pid}
+use Rattle.report_text.specs.linux_numbers.declared.namespaces.NamespaceType.TheVariants.{User, Uts}
 use Rattle.report_text.specs.kernel_laws.declared.question_types.question.Question.{Question}
 use Rattle.report_text.specs.kernel_laws.declared.question_types.question.Question.TheVariants.{Path as ByPath, Call, Socket}
 use Rattle.report_text.specs.kernel_laws.declared.question_types.question.Question.TheVariants.{Namespace as Ns, MapWx, ProtectX, ShmX}

@@ -5,4 +5,3 @@ pub mod Ascending
 pub mod Pushing
 pub mod Members
 pub mod Order
-pub mod Flags

@@ -18,9 +18,9 @@ use Rattle.kernel_laws.specs.site_table.Table.{Site}
 use Rattle.kernel_laws.specs.kernel_model.kernel_calls.Rules.{rule_of}
 use Rattle.kernel_laws.specs.declared.question_types.wish.Wish.{Wish}
 use Rattle.kernel_laws.specs.declared.question_types.wish.Wish.TheVariants.{See as ToSee, Read as ToRead, Write as ToWrite, Exec as ToExec}
-use Rattle.kernel_laws.specs.filter_settings.declared.filter_rules.namespace_types.NamespaceType.{NamespaceType}
-use Rattle.kernel_laws.specs.filter_settings.declared.filter_rules.namespace_types.NamespaceType.TheVariants.{Cgroup, Ipc, Net, Mnt, Pid}
-use Rattle.kernel_laws.specs.filter_settings.declared.filter_rules.namespace_types.NamespaceType.TheVariants.{User as UserSpace, Uts}
+use Rattle.kernel_laws.specs.linux_numbers.declared.namespaces.NamespaceType.{NamespaceType}
+use Rattle.kernel_laws.specs.linux_numbers.declared.namespaces.NamespaceType.TheVariants.{Cgroup, Ipc, Net, Mnt, Pid}
+use Rattle.kernel_laws.specs.linux_numbers.declared.namespaces.NamespaceType.TheVariants.{User as UserSpace, Uts}
 use Rattle.kernel_laws.specs.declared.question_types.question.Question.{Question}
 use Rattle.kernel_laws.specs.declared.question_types.question.Question.TheVariants.{Path as ByPath, Call, Socket, Namespace as Ns, MapWx}
 use Rattle.kernel_laws.specs.declared.question_types.question.Question.TheVariants.{ProtectX, ShmX, Realtime, Personality, SuidBit, Cap}

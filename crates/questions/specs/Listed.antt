@@ -11,14 +11,13 @@ use Rattle.kernel_laws.specs.site_table.declared.accounts.User.{User}
 use Rattle.kernel_laws.specs.site_table.declared.accounts.Group.{Group}
 use Rattle.kernel_laws.specs.site_table.Kinds.{is_dir, is_exe}
 use Rattle.kernel_laws.specs.site_table.Table.{Site}
-use Rattle.kernel_laws.specs.filter_settings.declared.filter_rules.namespace_types.NamespaceType.{NamespaceType}
-use Rattle.kernel_laws.specs.filter_settings.filter_rules.NamespaceTypes as filter
+use Rattle.kernel_laws.specs.linux_numbers.declared.namespaces.NamespaceType.{NamespaceType}
 use Rattle.kernel_laws.specs.kernel_model.kernel_calls.Rules.{rule_of}
-use Rattle.kernel_laws.specs.Questions.{flag_of, is_plain, ascending, questions}
+use Rattle.kernel_laws.specs.Questions.{is_plain, ascending, questions}
 use Rattle.kernel_laws.specs.declared.question_types.wish.Wish.{Wish}
 use Rattle.kernel_laws.specs.declared.question_types.wish.Wish.TheVariants.{See as ToSee, Read as ToRead, Write as ToWrite, Exec as ToExec}
-use Rattle.kernel_laws.specs.filter_settings.declared.filter_rules.namespace_types.NamespaceType.TheVariants.{Cgroup, Ipc, Net, Mnt, Pid}
-use Rattle.kernel_laws.specs.filter_settings.declared.filter_rules.namespace_types.NamespaceType.TheVariants.{User as UserSpace, Uts}
+use Rattle.kernel_laws.specs.linux_numbers.declared.namespaces.NamespaceType.TheVariants.{Cgroup, Ipc, Net, Mnt, Pid}
+use Rattle.kernel_laws.specs.linux_numbers.declared.namespaces.NamespaceType.TheVariants.{User as UserSpace, Uts}
 use Rattle.kernel_laws.specs.declared.question_types.question.Question.{Question}
 use Rattle.kernel_laws.specs.declared.question_types.question.Question.TheVariants.{Path as ByPath, Call, Socket, Namespace as Ns, MapWx}
 use Rattle.kernel_laws.specs.declared.question_types.question.Question.TheVariants.{ProtectX, ShmX, Realtime, Personality, SuidBit, Cap}
@@ -125,7 +124,3 @@ pub record IsInOrder (ids given : List ℕ) : Type 0 where
 
 abbrev pub IdsAscendOnce : Type 0
 IdsAscendOnce = (given : List ℕ) → IsInOrder (ascending given) given
-
--- clone(2), CLONE_NEW*
-abbrev pub FlagsAreTheTypes : Type 0
-FlagsAreTheTypes = (kind : NamespaceType) → flag_of kind ≡ filter.flag_of kind

@@ -1,6 +1,6 @@
 //! The laws of the list of questions. Each is the contract of a function that does nothing.
 
-ghost use Rattle.questions.specs.Listed.{ListsWhatIsAsked, StandInOrder, IdsAscendOnce, FlagsAreTheTypes};
+ghost use Rattle.questions.specs.Listed.{ListsWhatIsAsked, StandInOrder, IdsAscendOnce};
 
 /// The list has each question of its kind that has a thing to be asked of, and no other.
 pub fn members()
@@ -15,9 +15,4 @@ pub fn order()
 /// Ids that are put in order are the same ids, ascending, each once.
 pub fn ids()
     ensures ascend_each_once { IdsAscendOnce }
-{}
-
-/// Each type of namespaces has the flag of clone(2) that the filters look at.
-pub fn namespace_flags()
-    ensures one_flag { FlagsAreTheTypes }
 {}

@@ -12,9 +12,9 @@ use Rattle.exposure_score.specs.text_forms.Escaped.{escaped_word}
 use Rattle.questions.specs.kernel_laws.declared.question_types.wish.Wish.{Wish}
 use Rattle.questions.specs.kernel_laws.declared.question_types.wish.Wish.TheVariants.{See as ToSee, Read as ToRead, Write as ToWrite}
 use Rattle.questions.specs.kernel_laws.declared.question_types.wish.Wish.TheVariants.{Exec as ToExec}
-use Rattle.questions.specs.filter_settings.declared.filter_rules.namespace_types.NamespaceType.{NamespaceType}
-use Rattle.questions.specs.filter_settings.declared.filter_rules.namespace_types.NamespaceType.TheVariants.{Cgroup, Ipc, Net, Mnt, Pid}
-use Rattle.questions.specs.filter_settings.declared.filter_rules.namespace_types.NamespaceType.TheVariants.{User, Uts}
+use Rattle.questions.specs.linux_numbers.declared.namespaces.NamespaceType.{NamespaceType}
+use Rattle.questions.specs.linux_numbers.declared.namespaces.NamespaceType.TheVariants.{Cgroup, Ipc, Net, Mnt, Pid}
+use Rattle.questions.specs.linux_numbers.declared.namespaces.NamespaceType.TheVariants.{User, Uts}
 use Rattle.questions.specs.kernel_laws.declared.question_types.question.Question.{Question}
 use Rattle.questions.specs.kernel_laws.declared.question_types.question.Question.TheVariants.{Path as ByPath, Call, Socket, Namespace as Ns}
 use Rattle.questions.specs.kernel_laws.declared.question_types.question.Question.TheVariants.{MapWx, ProtectX, ShmX, Realtime, Personality}

@@ -10,7 +10,8 @@ use Rattle.exec_settings.specs.cap_sets.Sets.{has}
 use Rattle.exec_settings.specs.filter_settings.declared.filter_rules.settings.FilterSettings.{FilterSettings}
 use Rattle.exec_settings.specs.filter_settings.filter_rules.Calls.{allows_call}
 use Rattle.exec_settings.specs.filter_settings.filter_rules.Families.{permits_family}
-use Rattle.exec_settings.specs.filter_settings.filter_rules.NamespaceTypes.{all_types, permits, name_of as type_name}
+use Rattle.exec_settings.specs.filter_settings.filter_rules.NamespaceTypes.{all_types, permits}
+use Rattle.exec_settings.specs.linux_numbers.Namespaces.{name_of as type_name}
 use Rattle.exposure_score.specs.declared.service_facts.sandbox.Sandbox.{Sandbox}
 use Rattle.exposure_score.specs.declared.service_facts.lines.Matter.{Matter}
 use Rattle.exposure_score.specs.declared.service_facts.lines.Matter.TheVariants.{RunsAsRoot, NamesGroups, GainsPrivileges, HasAmbient}

@@ -4,12 +4,14 @@ ghost use Rattle.std.specs.Prelude.{◌≡◌, map};
 ghost use Rattle.std.specs.List.{list_any, range_with_len};
 ghost use Rattle.std.specs.Str.{bytes_eq};
 ghost use Rattle.exec_settings.specs.cap_sets.Names.{name_of as cap_name};
-ghost use Rattle.exec_settings.specs.filter_settings.filter_rules.NamespaceTypes.{all_types, name_of as type_name};
+ghost use Rattle.exec_settings.specs.filter_settings.filter_rules.NamespaceTypes.{all_types};
+ghost use Rattle.exec_settings.specs.linux_numbers.Namespaces.{name_of as type_name};
 ghost use Rattle.exposure_score.specs.service_facts.Each.{names, has_family, has_internet};
 ghost use Rattle.exposure_score.specs.service_facts.Facts.{is_of_line, is_known};
 
 use crate::service_facts::lines::{Line, Matter, table};
-use exec_settings::{CallLine, CallTable, CapSet, GroupLine, NamespaceType, all_types};
+use exec_settings::linux_numbers::namespaces::NamespaceType;
+use exec_settings::{CallLine, CallTable, CapSet, GroupLine, all_types};
 
 fn has_family(calls: &CallTable, name: &str) -> bool
     ensures { result ≡ has_family calls.now name.now }

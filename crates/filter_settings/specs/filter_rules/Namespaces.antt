@@ -8,9 +8,10 @@ use Rattle.dropin_merge.specs.linux_numbers.Errnos.{eperm, enosys}
 use Rattle.call_rules.specs.bpf_code.declared.machine.CallData.{CallData}
 use Rattle.call_rules.specs.declared.actions.Action.{Action}
 use Rattle.call_rules.specs.declared.actions.Action.TheVariants.{Errno}
-use Rattle.filter_settings.specs.declared.filter_rules.namespace_types.NamespaceType.{NamespaceType}
+use Rattle.filter_settings.specs.linux_numbers.declared.namespaces.NamespaceType.{NamespaceType}
 use Rattle.filter_settings.specs.declared.filter_rules.namespace_types.NamespaceTypes.{NamespaceTypes}
-use Rattle.filter_settings.specs.filter_rules.NamespaceTypes.{all_types, flag_of, permits}
+use Rattle.filter_settings.specs.filter_rules.NamespaceTypes.{all_types, permits}
+use Rattle.filter_settings.specs.linux_numbers.Namespaces.{flag_of}
 use Rattle.filter_settings.specs.filter_rules.Actions.{unless_refused, low, has_bits, is_one_of}
 
 abbrev pub forbidden_types : NamespaceTypes → List NamespaceType

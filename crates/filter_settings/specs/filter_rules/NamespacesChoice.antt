@@ -7,9 +7,9 @@ use Rattle.dropin_merge.specs.linux_numbers.Errnos.{enosys}
 use Rattle.call_rules.specs.Tested.{Tested}
 use Rattle.call_rules.specs.declared.actions.Action.TheVariants.{Errno}
 use Rattle.filter_settings.specs.declared.filter_rules.choice.Choice.{Choice}
-use Rattle.filter_settings.specs.declared.filter_rules.namespace_types.NamespaceType.{NamespaceType}
+use Rattle.filter_settings.specs.linux_numbers.declared.namespaces.NamespaceType.{NamespaceType}
 use Rattle.filter_settings.specs.declared.filter_rules.namespace_types.NamespaceTypes.{NamespaceTypes}
-use Rattle.filter_settings.specs.filter_rules.NamespaceTypes.{flag_of}
+use Rattle.filter_settings.specs.linux_numbers.Namespaces.{flag_of}
 use Rattle.filter_settings.specs.filter_rules.Namespaces.{forbidden_types, types_argument, clone_newtime}
 use Rattle.filter_settings.specs.filter_rules.Choices.{always, bits, whole, refused_where}
 

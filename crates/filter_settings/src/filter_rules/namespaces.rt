@@ -6,9 +6,10 @@ ghost use Rattle.filter_settings.specs.filter_rules.Namespaces.{types_argument};
 ghost use Rattle.filter_settings.specs.filter_rules.NamespacesChoice.{any_type_tests, flag_test, namespace_tests, namespaces_choice, time_tests, namespaces_choice_in};
 
 use crate::filter_rules::choice::{Choice, NOT_THERE, always, bits, refused_where, whole};
-use crate::filter_rules::namespace_types::{NamespaceType, NamespaceTypes, all_types};
+use crate::filter_rules::namespace_types::{NamespaceTypes, all_types};
 use call_rules::Test;
 use dropin_merge::Version;
+use dropin_merge::linux_numbers::namespaces::NamespaceType;
 use std::alloc::{AllocError, Global};
 
 /// CLONE_NEWTIME, clone(2).

@@ -1,7 +1,7 @@
 //! What a call asks for.
 
 use crate::question_types::wish::Wish;
-use filter_settings::filter_rules::NamespaceType;
+use filter_settings::linux_numbers::namespaces::NamespaceType;
 
 /// What a call asks for, syscalls(2).
 #[derive(Clone, Copy)]

@@ -1,7 +1,7 @@
 //! One question of a launched service.
 
 use crate::question_types::wish::Wish;
-use filter_settings::filter_rules::NamespaceType;
+use filter_settings::linux_numbers::namespaces::NamespaceType;
 
 /// Can a process of the service, now or after any calls, have a call done that does this?
 ///

@@ -30,12 +30,12 @@ use Rattle.ceilings.specs.kernel_laws.declared.question_types.kind.CallKind.TheV
 use Rattle.ceilings.specs.kernel_laws.declared.question_types.kind.CallKind.TheVariants.{PlainCall}
 use Rattle.ceilings.specs.kernel_laws.declared.question_types.wish.Wish.{Wish}
 use Rattle.ceilings.specs.kernel_laws.declared.question_types.wish.Wish.TheVariants.{Exec as ToExec}
-use Rattle.questions.specs.filter_settings.declared.filter_rules.namespace_types.NamespaceType.{NamespaceType}
+use Rattle.questions.specs.linux_numbers.declared.namespaces.NamespaceType.{NamespaceType}
 use Rattle.ceilings.specs.kernel_laws.declared.question_types.question.Question.{Question}
 use Rattle.ceilings.specs.kernel_laws.declared.question_types.power.Power.{Power}
 use Rattle.ceilings.specs.kernel_laws.declared.question_types.power.Power.TheVariants.{None as Nowise}
 use Rattle.ceilings.specs.kernel_laws.declared.question_types.question.Question.TheVariants as asking
-use Rattle.questions.specs.filter_settings.declared.filter_rules.namespace_types.NamespaceType.TheVariants as namespace
+use Rattle.questions.specs.linux_numbers.declared.namespaces.NamespaceType.TheVariants as namespace
 use Rattle.ceilings.specs.kernel_laws.Reach.{fits, reaches, runs_unmarked}
 use Rattle.ceilings.specs.kern_mounts.declared.step.Flags.{Flags}
 use Rattle.ceilings.specs.kernel_ways.Taking.{id_call}

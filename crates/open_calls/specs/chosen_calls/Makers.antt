@@ -4,8 +4,8 @@ use Rattle.ceilings.specs.call_table.Table.{Table}
 use Rattle.ceilings.specs.kernel_model.kern_files.Bits.{has_all}
 use Rattle.ceilings.specs.kernel_model.kernel_calls.Operation.{Clone, Does, asked_of}
 use Rattle.ceilings.specs.kernel_model.declared.kernel_calls.call.Call.{Call}
-use Rattle.questions.specs.filter_settings.declared.filter_rules.namespace_types.NamespaceType.TheVariants.{User}
-use Rattle.ceilings.specs.kernel_laws.Questions.{flag_of}
+use Rattle.questions.specs.linux_numbers.declared.namespaces.NamespaceType.TheVariants.{User}
+use Rattle.ceilings.specs.linux_numbers.Namespaces.{flag_of}
 
 -- the call asks for a child in a user namespace of its own: clone(2) with CLONE_NEWUSER, user_namespaces(7)
 pub record MakesUserChild (table : Table) (call : Call) : Type 0 where

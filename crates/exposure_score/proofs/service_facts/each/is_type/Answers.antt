@@ -1,6 +1,6 @@
 use Rattle.std.proofs.Common.{sym, ◌∙◌, rules, tests}
 use Rattle.std.specs.Str.{bytes_eq}
-use Rattle.exec_settings.specs.filter_settings.filter_rules.NamespaceTypes.{name_of as type_name}
+use Rattle.exec_settings.specs.linux_numbers.Namespaces.{name_of as type_name}
 use Rattle.std.proofs.lemmas.Iterator.Search.{any_from_yields_List}
 use Rattle.std.proofs.lemmas.Iterator.{YieldsList-from_slice}
 use Rattle.exposure_score.proofs.Mapped.{list_any-map}

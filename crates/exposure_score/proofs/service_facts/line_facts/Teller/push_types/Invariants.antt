@@ -1,5 +1,6 @@
 use Rattle.std.proofs.Common.{take}
-use Rattle.exec_settings.specs.filter_settings.filter_rules.NamespaceTypes.{permits, name_of}
+use Rattle.exec_settings.specs.filter_settings.filter_rules.NamespaceTypes.{permits}
+use Rattle.exec_settings.specs.linux_numbers.Namespaces.{name_of}
 use Rattle.exposure_score.specs.service_facts.Badness.{one_if}
 use Rattle.exposure_score.specs.service_facts.Facts.{told}
 use Rattle.exposure_score.proofs.Telling.{Tells}
