@@ -74,11 +74,11 @@ mentions_same unit site other same =
 ids_same : (unit : Resolved) (site other : Site) → AreSameFor unit site other → unit_identity unit other ≡ unit_identity unit site
 unfolding identity_of
 ids_same unit site other agree =
-    ap (λ uid. unit_identity unit (site_with uid other.user_namespaces other.systemd other.rows other.users other.groups))
+    ap (λ uid. unit_identity unit (site_with uid other.user_namespaces other.systemd other.io_uring other.rows other.users other.groups))
     agree.dynamic_uid
-    ∙ ap (λ (users : _). unit_identity unit (site_with site.dynamic_uid other.user_namespaces other.systemd other.rows users other.groups))
+    ∙ ap (λ (users : _). unit_identity unit (site_with site.dynamic_uid other.user_namespaces other.systemd other.io_uring other.rows users other.groups))
     agree.users
-    ∙ ap (λ (groups : _). unit_identity unit (site_with site.dynamic_uid other.user_namespaces other.systemd other.rows site.users groups))
+    ∙ ap (λ (groups : _). unit_identity unit (site_with site.dynamic_uid other.user_namespaces other.systemd other.io_uring other.rows site.users groups))
     agree.groups
 
 -- ---- the program is looked up at few paths

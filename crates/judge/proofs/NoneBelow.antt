@@ -57,12 +57,17 @@ folder_or_all folder all (row ∷ rows) each = by (is_below row.path folder) ref
 
 same_site : (folder : Path) (site other : Site) → AgreeOutside folder site other → other.rows ≡ site.rows → other ≡ site
 same_site folder site other agree rows =
-    ap (λ uid. site_with uid other.user_namespaces other.systemd other.rows other.users other.groups) agree.dynamic_uid
-    ∙ ap (λ spaces. site_with site.dynamic_uid spaces other.systemd other.rows other.users other.groups) agree.spaces
-    ∙ ap (λ systemd. site_with site.dynamic_uid site.user_namespaces systemd other.rows other.users other.groups) agree.systemd
-    ∙ ap (λ (rs : List Row). site_with site.dynamic_uid site.user_namespaces site.systemd rs other.users other.groups) rows
-    ∙ ap (λ (users : List User). site_with site.dynamic_uid site.user_namespaces site.systemd site.rows users other.groups) agree.users
-    ∙ ap (λ (groups : List Group). site_with site.dynamic_uid site.user_namespaces site.systemd site.rows site.users groups) agree.groups
+    ap (λ uid. site_with uid other.user_namespaces other.systemd other.io_uring other.rows other.users other.groups) agree.dynamic_uid
+    ∙ ap (λ spaces. site_with site.dynamic_uid spaces other.systemd other.io_uring other.rows other.users other.groups) agree.spaces
+    ∙ ap (λ systemd. site_with site.dynamic_uid site.user_namespaces systemd other.io_uring other.rows other.users other.groups)
+    agree.systemd
+    ∙ ap (λ io_uring. site_with site.dynamic_uid site.user_namespaces site.systemd io_uring other.rows other.users other.groups)
+    agree.io_uring
+    ∙ ap (λ (rs : List Row). site_with site.dynamic_uid site.user_namespaces site.systemd site.io_uring rs other.users other.groups) rows
+    ∙ ap (λ (users : List User). site_with site.dynamic_uid site.user_namespaces site.systemd site.io_uring site.rows users other.groups)
+    agree.users
+    ∙ ap (λ (groups : List Group). site_with site.dynamic_uid site.user_namespaces site.systemd site.io_uring site.rows site.users groups)
+    agree.groups
 
 pub folder_or_same : (folder : Path) (site other : Site) → IsSite site → IsSite other → AgreeOutside folder site other
     → IsFolder folder ⊎ (other ≡ site)

@@ -16,11 +16,12 @@ use Rattle.ceilings.specs.mount_plan.Resting.{HaveSameSources}
 abbrev pub rows_outside : Path → List Row → List Row
 rows_outside folder rows = filter (λ row. not (is_below row.path folder)) rows
 
--- the same ids and accounts, as many user namespaces, and the same rows except strictly below the folder
+-- the same ids and accounts, as many user namespaces, rings or none, and the same rows except strictly below the folder
 pub record AgreeOutside (folder : Path) (site other : Site) : Type 0 where
   pub dynamic_uid : other.dynamic_uid ≡ site.dynamic_uid
   pub spaces : other.user_namespaces ≡ site.user_namespaces
   pub systemd : other.systemd ≡ site.systemd
+  pub io_uring : other.io_uring ≡ site.io_uring
   pub users : other.users ≡ site.users
   pub groups : other.groups ≡ site.groups
   pub rows : rows_outside folder other.rows ≡ rows_outside folder site.rows

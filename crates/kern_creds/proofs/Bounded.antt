@@ -11,9 +11,10 @@ use Rattle.kern_creds.specs.RootChange.{with_uids, after_switch, after_leaving_r
 use Rattle.kern_creds.specs.Setgroups.{after_setgroups}
 use Rattle.kern_creds.specs.Capset.{may_capset, with_sets, after_capset}
 use Rattle.kern_creds.specs.Prctl.{after_clear_ambient, after_set_keepcaps, after_set_no_new_privs, after_set_mdwe}
+use Rattle.kern_creds.specs.Ring.{after_set_up_ring}
 use Rattle.kern_creds.specs.Exec.{is_refused, exec_done}
 use Rattle.kern_creds.specs.Calls.{Call, Setuid, Setgid, Setresuid, Setresgid, Setgroups, Capset, DropBounding, Raise, Lower, ClearAmbient}
-use Rattle.kern_creds.specs.Calls.{SetKeepcaps, SetNoNewPrivs, SetMdwe, Exec, after}
+use Rattle.kern_creds.specs.Calls.{SetKeepcaps, SetNoNewPrivs, SetMdwe, SetUpRing, Exec, after}
 use Rattle.kern_creds.specs.Steps.{may_gain}
 use Rattle.kern_creds.proofs.Answers.{Leaves, left_err, left_ok, left_if}
 use Rattle.kern_creds.proofs.SoundCalls.{may_capset-true}
@@ -96,6 +97,9 @@ step-marked creds = record { bounding = within_self _; inheritable = within_unio
 step-refused : (creds : Creds) → Step false creds (after_set_mdwe creds)
 step-refused creds = record { bounding = within_self _; inheritable = within_union_left _ _ _ (within_self _); no_new_privs = λ e. e; mdwe = λ e. refl; permitted = λ e. within_self _ }
 
+step-ring : (creds : Creds) → Step false creds (after_set_up_ring creds)
+step-ring creds = step-none creds (after_set_up_ring creds) refl refl refl refl refl
+
 step-dropped : (creds : Creds) (cap' : ℕ) → Step false creds (record creds { bounding = minus creds.bounding (single cap') })
 step-dropped creds cap' = record { bounding = minus_within _ _ _ (within_self _); inheritable = within_union_left _ _ _ (within_self _); no_new_privs = λ e. e; mdwe = λ e. e; permitted = λ e. within_self _ }
 
@@ -113,6 +117,7 @@ step creds ClearAmbient = left_ok _ (after_clear_ambient creds) (step-ambient cr
 step creds (SetKeepcaps on) = left_ok _ (after_set_keepcaps creds on) (step-keepcaps creds on)
 step creds SetNoNewPrivs = left_ok _ (after_set_no_new_privs creds) (step-marked creds)
 step creds SetMdwe = left_ok _ (after_set_mdwe creds) (step-refused creds)
+step creds SetUpRing = left_ok _ (after_set_up_ring creds) (step-ring creds)
 step creds (Exec file nosuid) =
     left_if (Step (not creds.no_new_privs) creds) (is_refused creds file nosuid) (Err 1) (Ok (exec_done creds file nosuid))
     (λ e. left_err _ 1) (λ e. left_ok _ _ (step-done creds file nosuid))

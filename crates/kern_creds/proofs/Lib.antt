@@ -5,6 +5,7 @@ pub mod Answers
 pub mod SoundCalls
 pub mod SoundExec
 pub mod Bounded
+pub mod Rings
 pub mod Runs
 pub mod GuardedIds
 pub mod GuardedCalls

@@ -7,13 +7,13 @@ use Rattle.kern_creds.specs.declared.file.FileCreds.{FileCreds}
 use Rattle.kern_creds.specs.declared.creds.Creds.{Creds}
 use Rattle.kern_creds.specs.Exec.{after_exec}
 use Rattle.kern_creds.specs.Calls.{Call, Setuid, Setgid, Setresuid, Setresgid, Setgroups, Capset, DropBounding, Raise, Lower, ClearAmbient}
-use Rattle.kern_creds.specs.Calls.{SetKeepcaps, SetNoNewPrivs, SetMdwe, Exec, after}
+use Rattle.kern_creds.specs.Calls.{SetKeepcaps, SetNoNewPrivs, SetMdwe, SetUpRing, Exec, after}
 use Rattle.kern_creds.specs.Sound.{IsSound}
 use Rattle.kern_creds.specs.Steps.{Leads, Reaches, Here, Then, may_gain}
 use Rattle.kern_creds.proofs.Answers.{Leaves, left_ok}
 use Rattle.kern_creds.proofs.SoundCalls.{sound-setuid, sound-setgid, sound-setresuid, sound-setresgid, sound-setgroups, sound-capset}
 use Rattle.kern_creds.proofs.SoundCalls.{sound-drop_bounding, sound-raise, sound-lower, sound-clear_ambient, sound-set_keepcaps}
-use Rattle.kern_creds.proofs.SoundCalls.{sound-set_no_new_privs, sound-set_mdwe}
+use Rattle.kern_creds.proofs.SoundCalls.{sound-set_no_new_privs, sound-set_mdwe, sound-set_up_ring}
 use Rattle.kern_creds.proofs.SoundExec.{sound-exec, bounded-exec}
 use Rattle.kern_creds.proofs.Bounded.{Step, step}
 
@@ -31,6 +31,7 @@ sound-after creds ClearAmbient k = left_ok IsSound _ (sound-clear_ambient creds 
 sound-after creds (SetKeepcaps on) k = left_ok IsSound _ (sound-set_keepcaps creds k on)
 sound-after creds SetNoNewPrivs k = left_ok IsSound _ (sound-set_no_new_privs creds k)
 sound-after creds SetMdwe k = left_ok IsSound _ (sound-set_mdwe creds k)
+sound-after creds SetUpRing k = left_ok IsSound _ (sound-set_up_ring creds k)
 sound-after creds (Exec file nosuid) k = sound-exec false creds file nosuid k
 
 pub sound_by_call : (creds now : Creds) (call : Call) → IsSound creds → Leads creds call now → IsSound now
@@ -59,6 +60,7 @@ none_gains creds ClearAmbient e = refl
 none_gains creds (SetKeepcaps on) e = refl
 none_gains creds SetNoNewPrivs e = refl
 none_gains creds SetMdwe e = refl
+none_gains creds SetUpRing e = refl
 
 pub bounding_by_run : (first now : Creds) → Reaches first now → IsWithin now.bounding first.bounding
 bounding_by_run first _ Here = within_self _

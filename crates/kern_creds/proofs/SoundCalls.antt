@@ -15,6 +15,7 @@ use Rattle.kern_creds.specs.Setgroups.{after_setgroups}
 use Rattle.kern_creds.specs.Capset.{may_capset, with_sets, after_capset}
 use Rattle.kern_creds.specs.Prctl.{after_drop_bounding, after_raise, after_lower, after_clear_ambient, after_set_keepcaps}
 use Rattle.kern_creds.specs.Prctl.{after_set_no_new_privs, after_set_mdwe}
+use Rattle.kern_creds.specs.Ring.{after_set_up_ring}
 use Rattle.kern_creds.specs.Sound.{IsSound}
 use Rattle.kern_creds.proofs.Answers.{Leaves, left_err, left_ok, left_if}
 
@@ -105,6 +106,9 @@ module _ (creds : Creds) (k : IsSound creds) where
 
   pub sound-set_mdwe : IsSound (after_set_mdwe creds)
   sound-set_mdwe = search rules
+
+  pub sound-set_up_ring : IsSound (after_set_up_ring creds)
+  sound-set_up_ring = search rules
 
   pub sound-capset : (p e i : ℕ) → Leaves IsSound (after_capset creds p e i)
   sound-capset p e i =

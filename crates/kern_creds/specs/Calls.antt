@@ -6,6 +6,7 @@ use Rattle.kern_creds.specs.Setgroups.{after_setgroups}
 use Rattle.kern_creds.specs.Capset.{after_capset}
 use Rattle.kern_creds.specs.Prctl.{after_drop_bounding, after_raise, after_lower, after_clear_ambient, after_set_keepcaps}
 use Rattle.kern_creds.specs.Prctl.{after_set_no_new_privs, after_set_mdwe}
+use Rattle.kern_creds.specs.Ring.{after_set_up_ring}
 use Rattle.kern_creds.specs.Exec.{after_exec}
 use Rattle.kern_creds.specs.declared.file.FileCreds.{FileCreds}
 use Rattle.kern_creds.specs.declared.creds.Creds.{Creds}
@@ -24,6 +25,7 @@ pub data Call : Type 0 where
   SetKeepcaps : Bool → Call
   SetNoNewPrivs : Call
   SetMdwe : Call
+  SetUpRing : Call
   Exec : FileCreds → Bool → Call
 
 -- the result of a call
@@ -41,4 +43,5 @@ after creds ClearAmbient = Ok (after_clear_ambient creds)
 after creds (SetKeepcaps on) = Ok (after_set_keepcaps creds on)
 after creds SetNoNewPrivs = Ok (after_set_no_new_privs creds)
 after creds SetMdwe = Ok (after_set_mdwe creds)
+after creds SetUpRing = Ok (after_set_up_ring creds)
 after creds (Exec file nosuid) = after_exec creds file nosuid

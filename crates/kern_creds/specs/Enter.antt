@@ -4,6 +4,6 @@ use Rattle.std.specs.Prelude.{false}
 use Rattle.cap_sets.specs.Sets.{none, all}
 use Rattle.kern_creds.specs.declared.creds.Creds.{Creds}
 
--- ids, groups, no_new_privs and mdwe stay
+-- ids, groups, no_new_privs, mdwe and a ring stay
 abbrev pub entered : Creds → Creds
 entered creds = record creds { permitted = all; effective = all; bounding = all; inheritable = none; ambient = none; keepcaps = false }

@@ -98,7 +98,7 @@ exec_effective_in newer creds file nosuid =
 abbrev pub exec_effective : Creds → FileCreds → Bool → ℕ
 exec_effective creds file nosuid = exec_effective_in false creds file nosuid
 
--- P'(inheritable), P'(bounding), the groups, no_new_privs and mdwe stay; keepcaps is cleared
+-- P'(inheritable), P'(bounding), the groups, no_new_privs and mdwe stay; keepcaps is cleared, and a ring is closed
 abbrev pub exec_done_in : Bool → Creds → FileCreds → Bool → Creds
 exec_done_in newer creds file nosuid =
     record creds {
@@ -107,6 +107,7 @@ exec_done_in newer creds file nosuid =
       permitted = exec_permitted_in newer creds file nosuid;
       effective = exec_effective_in newer creds file nosuid;
       ambient = exec_ambient_in newer creds file nosuid;
+      ring = false;
       keepcaps = false;
     }
 

@@ -7,6 +7,7 @@ pub mod Setresuid
 pub mod Setgroups
 pub mod Capset
 pub mod Prctl
+pub mod Ring
 pub mod Exec
 pub mod Enter
 pub mod Calls

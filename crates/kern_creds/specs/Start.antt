@@ -1,5 +1,5 @@
 -- The credentials of the first process, capabilities(7): it is root and has every capability. Its inheritable and ambient sets
--- are empty.
+-- are empty, and it has no ring.
 use Rattle.std.specs.Prelude.{[], false}
 use Rattle.cap_sets.specs.Sets.{none, all}
 use Rattle.kern_creds.specs.declared.ids.Ids.{Ids}
@@ -20,5 +20,6 @@ start = record {
   ambient = none;
   no_new_privs = false;
   mdwe = false;
+  ring = false;
   keepcaps = false;
 }

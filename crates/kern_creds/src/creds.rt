@@ -10,7 +10,8 @@ use crate::ids::Ids;
 use cap_sets::CapSet;
 use std::alloc::{AllocError, Global};
 
-/// The credentials of a process, credentials(7) and capabilities(7).
+/// The credentials of a process, credentials(7) and capabilities(7), and the marks that it keeps or loses when it executes a
+/// program.
 #[derive(Drop)]
 pub struct Creds {
     pub(crate) uids: Ids,
@@ -23,12 +24,13 @@ pub struct Creds {
     pub(crate) ambient: CapSet,
     pub(crate) no_new_privs: bool,
     pub(crate) mdwe: bool,
+    pub(crate) ring: bool,
     pub(crate) keepcaps: bool,
 }
 
 impl Creds {
-    /// Makes the credentials of the first process: all ids are 0, there are no groups, and the permitted, effective and
-    /// bounding sets are full.
+    /// Makes the credentials of the first process: all ids are 0, there are no groups, the permitted, effective and
+    /// bounding sets are full, and there is no ring.
     pub fn start(alloc: Global) -> Creds
         ensures as_at_the_start { result ≡ start }
     {
@@ -43,6 +45,7 @@ impl Creds {
             ambient: CapSet::empty(),
             no_new_privs: false,
             mdwe: false,
+            ring: false,
             keepcaps: false,
         }
     }
@@ -62,6 +65,7 @@ impl Creds {
             ambient: self.ambient,
             no_new_privs: self.no_new_privs,
             mdwe: self.mdwe,
+            ring: self.ring,
             keepcaps: self.keepcaps,
         })
     }
@@ -140,6 +144,13 @@ impl Creds {
         self.mdwe
     }
 
+    /// Whether the process has a ring, to which io_uring_enter(2) submits requests.
+    pub fn ring(&self) -> bool
+        ensures as_held { result ≡ self.now.ring }
+    {
+        self.ring
+    }
+
     /// Whether the process keeps its permitted set when none of its uids is 0 any more, PR_GET_KEEPCAPS of prctl(2).
     pub fn keepcaps(&self) -> bool
         ensures as_held { result ≡ self.now.keepcaps }
@@ -148,8 +159,8 @@ impl Creds {
     }
 
     /// Moves the process into a user namespace of its own, user_namespaces(7). The permitted, effective and bounding sets
-    /// become full, the inheritable and ambient sets empty, and keepcaps is cleared. The ids, the groups, no_new_privs and mdwe
-    /// stay.
+    /// become full, the inheritable and ambient sets empty, and keepcaps is cleared. The ids, the groups, no_new_privs,
+    /// mdwe and a ring stay.
     pub fn enter(&mut self)
         ensures entered { self.new ≡ entered self.old }
     {

@@ -122,7 +122,8 @@ impl Creds {
     /// Returns EPERM if the mount does not have nosuid, the file's effective bit is on, and the bounding set lacks one of the
     /// file's capabilities. Else the credentials change by the rules of capabilities(7).
     ///
-    /// In a newer user namespace, user_namespaces(7), set-id bits have no effect, and root is a user like others.
+    /// In a newer user namespace, user_namespaces(7), set-id bits have no effect, and root is a user like others. A ring is
+    /// closed in any of them.
     pub fn exec(&mut self, file: &FileCreds, nosuid: bool, newer: bool) -> Result<(), u32>
         ensures by_the_file { Becomes self.old self.new result (exec_in newer self.old file.now nosuid) }
     {
@@ -140,6 +141,7 @@ impl Creds {
         self.effective = effective;
         self.uids = uids;
         self.gids = gids;
+        self.ring = false;
         self.keepcaps = false;
         Ok(())
     }

@@ -12,7 +12,7 @@ ghost use Rattle.kern_creds.specs.Exec.{after_exec, exec_in, honours, is_privile
 ghost use Rattle.kern_creds.specs.Enter.{entered};
 ghost use Rattle.kern_creds.specs.Calls.{Call};
 ghost use Rattle.kern_creds.specs.Sound.{IsSound};
-ghost use Rattle.kern_creds.specs.Guarded.{AreAmong, is_set_user, is_set_group};
+ghost use Rattle.kern_creds.specs.Guarded.{AreAmong, is_set_user, is_set_group, is_set_up};
 ghost use Rattle.kern_creds.specs.Steps.{Leads, Reaches, may_gain};
 
 /// Each effective capability is permitted, and each ambient capability is permitted and inheritable. This holds at the start
@@ -49,6 +49,14 @@ pub fn no_new_privs_holds()
 /// No call clears mdwe: a process that is refused memory which it can both write and execute is refused it for good.
 pub fn mdwe_holds()
     ensures stays_on { (creds now : Creds) → Reaches creds now → creds.mdwe ≡ true → now.mdwe ≡ true }
+{}
+
+/// Execve closes a ring, in whatever user namespace. A process has a ring only if it set one up or had one before.
+pub fn rings()
+    ensures closed_by_execve { (newer : Bool) (creds now : Creds) (file : FileCreds) (nosuid : Bool)
+        → exec_in newer creds file nosuid ≡ Ok now → now.ring ≡ false }
+    ensures set_up_or_had { (creds now : Creds) (call : Call) → is_set_up call ≡ false → Leads creds call now → now.ring ≡ true
+        → creds.ring ≡ true }
 {}
 
 /// Only execve without no_new_privs extends the permitted set. The result is within the inheritable and the bounding set.
@@ -126,12 +134,12 @@ pub fn execve_gives_others()
 {}
 
 /// A process that enters a user namespace of its own gets every capability there, and keeps its ids, its groups,
-/// no_new_privs and mdwe. In a newer user namespace, execve ignores set-id bits and gives root no more than other users.
+/// no_new_privs, mdwe and a ring. In a newer user namespace, execve ignores set-id bits and gives root no more than other users.
 pub fn user_namespaces()
     ensures entering_is_sound { (creds : Creds) → IsSound (entered creds) }
     ensures entering_keeps { (creds : Creds) → ((entered creds).uids ≡ creds.uids) × ((entered creds).gids ≡ creds.gids)
         × ((entered creds).groups ≡ creds.groups) × ((entered creds).no_new_privs ≡ creds.no_new_privs)
-        × ((entered creds).mdwe ≡ creds.mdwe) }
+        × ((entered creds).mdwe ≡ creds.mdwe) × ((entered creds).ring ≡ creds.ring) }
     ensures execve_stays_sound { (creds now : Creds) (file : FileCreds) (nosuid : Bool) → IsSound creds
         → exec_in true creds file nosuid ≡ Ok now → IsSound now }
     ensures execve_keeps_ids { (creds now : Creds) (file : FileCreds) (nosuid : Bool) → exec_in true creds file nosuid ≡ Ok now

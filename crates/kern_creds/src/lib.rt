@@ -13,6 +13,7 @@ mod identity;
 mod ids;
 pub mod laws;
 mod prctl;
+mod ring;
 mod sets;
 
 pub use creds::Creds;

@@ -94,7 +94,7 @@ pub effect_case : (world : World) (pid : ℕ) (process : Process) (effect : Effe
     → EffectCase world pid process effect (applied world pid process effect)
 effect_case world pid process (f.Refuse errno) = case.refuses errno
 effect_case world pid process (f.Answer value) = case.answers value
-effect_case world pid process (f.SetCreds creds) = case.takes_creds creds
+effect_case world pid process (f.SetCreds value creds) = case.takes_creds value creds
 effect_case world pid process (f.SetTable table) = case.takes_table table
 effect_case world pid process (f.Push program) = case.takes_program program
 effect_case world pid process (f.Child own) = case_process world pid process own (nat_lt (length world.processes) most_processes) refl
@@ -129,7 +129,7 @@ pub effect_is : (world : World) (pid : ℕ) (process : Process) (effect : Effect
     → EffectCase world pid process effect out → out ≡ applied world pid process effect
 effect_is world pid process effect out (case.refuses errno) = refl
 effect_is world pid process effect out (case.answers value) = refl
-effect_is world pid process effect out (case.takes_creds creds) = refl
+effect_is world pid process effect out (case.takes_creds value creds) = refl
 effect_is world pid process effect out (case.takes_table table) = refl
 effect_is world pid process effect out (case.takes_program program) = refl
 effect_is world pid process effect out (case.no_process_left own full) = rw (is_more (length world.processes) most_processes full) refl
@@ -182,7 +182,7 @@ shape_effect : (world : World) (pid : ℕ) (process : Process) (effect : Effect)
     → EffectCase world pid process effect out → Shape world pid out
 shape_effect world pid process effect out (case.refuses errno) = refused errno
 shape_effect world pid process effect out (case.answers value) = done _ _
-shape_effect world pid process effect out (case.takes_creds creds) = done _ _
+shape_effect world pid process effect out (case.takes_creds value creds) = done _ _
 shape_effect world pid process effect out (case.takes_table table) = done _ _
 shape_effect world pid process effect out (case.takes_program program) = done _ _
 shape_effect world pid process effect out (case.no_process_left own full) = refused eagain

@@ -9,14 +9,15 @@ use Rattle.call_table.specs.declared.call_names.rule.CallRule.{CallRule}
 use Rattle.call_table.specs.declared.call_names.rule.CallRule.TheVariants as known
 use Rattle.call_table.specs.declared.call_names.payload.PayloadForm.TheVariants as form
 use Rattle.kernel_model.specs.declared.kernel_calls.payload.Payload.{Payload}
-use Rattle.kernel_model.specs.declared.kernel_calls.payload.Payload.TheVariants.{Nothing, OnePath, TwoPaths, PathFlags, Sets, Ids, Number, Code}
+use Rattle.kernel_model.specs.declared.kernel_calls.payload.Payload.TheVariants.{Nothing, OnePath, TwoPaths, PathFlags, Sets, Ids, Number, Code, Ring}
+use Rattle.kernel_model.specs.declared.kernel_calls.request.Request.{Request}
 use Rattle.kernel_model.specs.declared.kernel_calls.rule.Rule.{Rule}
 use Rattle.kernel_model.specs.declared.kernel_calls.rule.Rule.TheVariants as rule
 use Rattle.kernel_model.specs.kernel_calls.Calls.{form_of_payload}
 use Rattle.kernel_model.specs.kernel_calls.Operation.{Operation, See, Open, Create, Truncate, Execve, SetMode, Map, Protect, Attach, Schedule}
 use Rattle.kernel_model.specs.kernel_calls.Operation.{SetAttributes, Personality, Socket, Socketcall, Socketpair, Enter, Fork, Clone, Unshare, Exit, Mount, Umount, Setuid}
-use Rattle.kernel_model.specs.kernel_calls.Operation.{Setgid, Setresuid, Setresgid, Setgroups, Capset, Prctl, Seccomp, Plain, bare, by_path}
-use Rattle.kernel_model.specs.kernel_calls.Operation.{by_path_flags, by_paths, by_sets, by_ids, by_number, by_code, known_operation, operation_by}
+use Rattle.kernel_model.specs.kernel_calls.Operation.{Setgid, Setresuid, Setresgid, Setgroups, Capset, Prctl, Seccomp, SetUpRing, Submit, Plain, bare, by_path}
+use Rattle.kernel_model.specs.kernel_calls.Operation.{by_path_flags, by_paths, by_sets, by_ids, by_number, by_code, by_request, known_operation, operation_by}
 use Rattle.kernel_model.specs.kernel_calls.Rules.{form_of_rule}
 use Rattle.kernel_model.specs.kernel_calls.Words.{low_word}
 
@@ -54,13 +55,19 @@ by_code_form : (operation : List ℕ → Operation) (payload : Payload) → (for
 by_code_form operation (Code bytes) = (λ h. refl, λ h. refl)
 by_code_form operation payload = (λ h. cc, λ h. cc)
 
+by_request_form : (operation : Request → Operation) (payload : Payload)
+    → (form_of_payload payload ≡ form.Request) ↔ IsSome (by_request operation payload)
+by_request_form operation (Ring request) = (λ h. refl, λ h. refl)
+by_request_form operation payload = (λ h. cc, λ h. cc)
+
 known_form : (rule : CallRule) (args : List ℕ) (payload : Payload)
     → (form_of_payload payload ≡ form_of rule) ↔ IsSome (known_operation rule args payload)
 known_form known.See args = by_path_form See
 known_form (known.Open flags) args = by_path_form (Open (low_word args (place_of flags)) 0)
 known_form (known.OpenWith flags) args = by_path_form (Open (low_word args (place_of flags)) (low_word args (mode_place_of flags)))
 known_form known.Openat2 args = by_path_flags_form (λ path flags. Open flags 0 path)
-known_form known.Create args = by_path_form Create
+known_form known.Create args = by_path_form (Create 0)
+known_form known.CreateWith args = by_path_form (Create (low_word args 1))
 known_form known.Truncate args = by_path_form Truncate
 known_form known.Execve args = by_path_form Execve
 known_form (known.SetMode mode) args = bare_form (SetMode (low_word args (place_of mode)))
@@ -91,6 +98,8 @@ known_form known.Setgroups args = by_ids_form Setgroups
 known_form known.Capset args = by_sets_form Capset
 known_form known.Prctl args = bare_form (Prctl (low_word args 0) (low_word args 1) (low_word args 2) (low_word args 3) (low_word args 4))
 known_form known.Seccomp args = by_code_form (Seccomp (low_word args 0) (low_word args 1))
+known_form known.SetUpRing args = bare_form SetUpRing
+known_form known.Submit args = by_request_form Submit
 
 pub form_decides : (rule : Rule) (args : List ℕ) (payload : Payload)
     → (form_of_payload payload ≡ form_of_rule rule) ↔ IsSome (operation_by rule args payload)
@@ -130,6 +139,7 @@ known_low (known.OpenWith flags) args other payload same =
     ap (λ w. by_path (Open w (low_word args (mode_place_of flags))) payload) (same (place_of flags) (within flags))
     ∙ ap (λ w. by_path (Open (low_word other (place_of flags)) w) payload) (same (mode_place_of flags) (mode_within flags))
 known_low (known.SetMode mode) args other payload same = ap (λ w. bare (SetMode w) payload) (same (place_of mode) (within mode))
+known_low known.CreateWith args other payload same = ap (λ w. by_path (Create w) payload) (same 1 (omega arith))
 known_low known.Map args other payload same = ap (λ w. bare (Map w) payload) (same 2 (omega arith))
 known_low known.Protect args other payload same = ap (λ w. bare (Protect w) payload) (same 2 (omega arith))
 known_low known.Attach args other payload same = ap (λ w. bare (Attach w) payload) (same 2 (omega arith))

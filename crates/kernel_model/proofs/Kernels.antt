@@ -7,7 +7,7 @@ use Rattle.bpf_code.specs.declared.machine.Insn.{Insn}
 use Rattle.bpf_code.specs.ProgramOf.{program_of}
 use Rattle.bpf_code.specs.Stack.{room_of}
 use Rattle.site_table.specs.cap_sets.Sets.{has}
-use Rattle.kern_mounts.specs.linux_numbers.Errnos.{eperm, eacces, einval, enomem}
+use Rattle.kern_mounts.specs.linux_numbers.Errnos.{eperm, ebadf, eacces, einval, enomem}
 use Rattle.kern_mounts.specs.linux_numbers.Capabilities.{cap_sys_admin, cap_last_cap}
 use Rattle.kern_mounts.specs.linux_numbers.Limits.{max_insns_per_path, no_id}
 use Rattle.kernel_model.specs.kern_files.Bits.{has_some, has_all}
@@ -15,6 +15,7 @@ use Rattle.call_table.specs.declared.listed.CallLine.{CallLine}
 use Rattle.kern_creds.specs.declared.creds.Creds.{Creds}
 use Rattle.kern_creds.specs.Prctl.{after_drop_bounding, after_raise, after_lower, after_clear_ambient, after_set_keepcaps}
 use Rattle.kern_creds.specs.Prctl.{after_set_no_new_privs, after_set_mdwe}
+use Rattle.kern_creds.specs.Ring.{after_set_up_ring}
 use Rattle.kern_creds.specs.Setuid.{after_setuid, after_setgid}
 use Rattle.kern_creds.specs.Setresuid.{after_setresuid, after_setresgid}
 use Rattle.kern_creds.specs.Setgroups.{after_setgroups}
@@ -26,6 +27,8 @@ use Rattle.kernel_model.specs.declared.kernel_calls.call.Call.{Call}
 use Rattle.kernel_model.specs.kernel_calls.Operation as d
 use Rattle.kernel_model.specs.kernel_calls.Operation.{Operation}
 use Rattle.kernel_model.specs.declared.mount_namespace.MountNamespace.{MountNamespace}
+use Rattle.kernel_model.specs.declared.kernel_calls.request.Request.{Request}
+use Rattle.kernel_model.specs.declared.kernel_calls.request.Request.TheVariants as ask
 use Rattle.kernel_model.specs.declared.process.Process.{Process}
 use Rattle.kernel_model.specs.MountNamespaces.{copy_for, namespace_or, with_other_table}
 use Rattle.kernel_model.specs.declared.reply.Reply.{Reply}
@@ -35,7 +38,7 @@ use Rattle.kernel_model.specs.Effects.{creds_effect, table_effect, with_cap, wit
 use Rattle.kernel_model.specs.Effects.{unshare_effect, is_set_effect, ambient_effect, no_new_privs_effect, keepcaps_effect, prctl_effect}
 use Rattle.kernel_model.specs.Effects.{push_effect, seccomp_effect, first_alone, socketcall_effect, socketpair_effect, no_pair, af_unix, protect_effect}
 use Rattle.kernel_model.specs.Effects.{attach_effect, attributes_effect, schedule_answer}
-use Rattle.kernel_model.specs.Effects.{set_mdwe_effect, prctl_effect_of}
+use Rattle.kernel_model.specs.Effects.{set_mdwe_effect, prctl_effect_of, set_up_effect, request_effect, submit_effect}
 use Rattle.kernel_model.specs.World.{World, living_of, of_number, namespace_of, mounts_of, with_process, with_table, with_child, with_copy}
 use Rattle.kernel_model.specs.World.{moved_to, ended, host_of, caller_of, owner_of, with_user, entered_by}
 use Rattle.kernel_model.specs.Step.{step, most_processes, most_namespaces}
@@ -57,7 +60,7 @@ abbrev pub Roots : Effect → Type 0
 Roots (f.SetTable table) = IsRooted table
 Roots (f.Refuse errno) = Unit {0}
 Roots (f.Answer value) = Unit {0}
-Roots (f.SetCreds creds) = Unit {0}
+Roots (f.SetCreds value creds) = Unit {0}
 Roots (f.Push program) = Unit {0}
 Roots (f.Child own) = Unit {0}
 Roots f.OwnTable = Unit {0}
@@ -196,25 +199,25 @@ roots_is_set : (creds : Creds) (cap : ℕ) → MakesRooted (is_set_effect creds 
 roots_is_set creds cap = roots_if (nat_lt cap_last_cap cap) (f.Refuse einval) (f.Answer (cond (has creds.ambient cap) 1 0))
     (refuses einval) (gives (cond (has creds.ambient cap) 1 0))
 
-roots_clear : (creds : Creds) → MakesRooted (f.SetCreds creds)
-roots_clear creds = record { rooted = tt }
+roots_clear : (value : ℕ) (creds : Creds) → MakesRooted (f.SetCreds value creds)
+roots_clear value creds = record { rooted = tt }
 
 roots_ambient : (creds : Creds) (op cap : ℕ) → MakesRooted (ambient_effect creds op cap)
 roots_ambient creds op cap = is_set (op == 1)
   where
-    clear : (b : Bool) → MakesRooted (cond b (f.SetCreds (after_clear_ambient creds)) (f.Refuse einval))
-    clear true = roots_clear (after_clear_ambient creds)
+    clear : (b : Bool) → MakesRooted (cond b (f.SetCreds 0 (after_clear_ambient creds)) (f.Refuse einval))
+    clear true = roots_clear 0 (after_clear_ambient creds)
     clear false = refuses einval
 
     lower : (b : Bool) → MakesRooted
-        (cond b (creds_effect (after_lower creds cap)) (cond (op == 4) (f.SetCreds (after_clear_ambient creds)) (f.Refuse einval)))
+        (cond b (creds_effect (after_lower creds cap)) (cond (op == 4) (f.SetCreds 0 (after_clear_ambient creds)) (f.Refuse einval)))
     lower true = roots_creds (after_lower creds cap)
     lower false = clear (op == 4)
 
     raise : (b : Bool) → MakesRooted
         (cond b (creds_effect (after_raise creds cap))
         (cond (op == 3) (creds_effect (after_lower creds cap))
-        (cond (op == 4) (f.SetCreds (after_clear_ambient creds)) (f.Refuse einval))))
+        (cond (op == 4) (f.SetCreds 0 (after_clear_ambient creds)) (f.Refuse einval))))
     raise true = roots_creds (after_raise creds cap)
     raise false = lower (op == 3)
 
@@ -222,17 +225,17 @@ roots_ambient creds op cap = is_set (op == 1)
         → MakesRooted (cond b (is_set_effect creds cap)
         (cond (op == 2) (creds_effect (after_raise creds cap))
         (cond (op == 3) (creds_effect (after_lower creds cap))
-        (cond (op == 4) (f.SetCreds (after_clear_ambient creds)) (f.Refuse einval)))))
+        (cond (op == 4) (f.SetCreds 0 (after_clear_ambient creds)) (f.Refuse einval)))))
     is_set true = roots_is_set creds cap
     is_set false = raise (op == 2)
 
 roots_no_new_privs : (creds : Creds) (value : ℕ) → MakesRooted (no_new_privs_effect creds value)
-roots_no_new_privs creds value = roots_if (value == 1) (f.SetCreds (after_set_no_new_privs creds)) (f.Refuse einval)
-    (roots_clear (after_set_no_new_privs creds)) (refuses einval)
+roots_no_new_privs creds value = roots_if (value == 1) (f.SetCreds 0 (after_set_no_new_privs creds)) (f.Refuse einval)
+    (roots_clear 0 (after_set_no_new_privs creds)) (refuses einval)
 
 roots_keepcaps : (creds : Creds) (value : ℕ) → MakesRooted (keepcaps_effect creds value)
-roots_keepcaps creds value = roots_if (nat_lt value 2) (f.SetCreds (after_set_keepcaps creds (value == 1))) (f.Refuse einval)
-    (roots_clear (after_set_keepcaps creds (value == 1))) (refuses einval)
+roots_keepcaps creds value = roots_if (nat_lt value 2) (f.SetCreds 0 (after_set_keepcaps creds (value == 1))) (f.Refuse einval)
+    (roots_clear 0 (after_set_keepcaps creds (value == 1))) (refuses einval)
 
 roots_prctl : (creds : Creds) (option value third : ℕ) → MakesRooted (prctl_effect creds option value third)
 roots_prctl creds option value third = set (option == 38)
@@ -273,8 +276,8 @@ roots_prctl creds option value third = set (option == 38)
 roots_set_mdwe : (creds : Creds) (value : ℕ) (alone : Bool) → MakesRooted (set_mdwe_effect creds value alone)
 roots_set_mdwe creds value false = refuses einval
 roots_set_mdwe creds value true =
-    roots_if (value == 1) (f.SetCreds (after_set_mdwe creds)) (cond (value == 0) (cond creds.mdwe (f.Refuse eperm) (f.Answer 0)) (f.Refuse einval))
-    (roots_clear (after_set_mdwe creds))
+    roots_if (value == 1) (f.SetCreds 0 (after_set_mdwe creds)) (cond (value == 0) (cond creds.mdwe (f.Refuse eperm) (f.Answer 0)) (f.Refuse einval))
+    (roots_clear 0 (after_set_mdwe creds))
     (roots_if (value == 0) (cond creds.mdwe (f.Refuse eperm) (f.Answer 0)) (f.Refuse einval)
     (roots_if creds.mdwe (f.Refuse eperm) (f.Answer 0) (refuses eperm) (gives 0)) (refuses einval))
 
@@ -316,10 +319,24 @@ roots_seccomp creds stack op flags bytes = mode (not (op == 1 && flags == 0))
     mode true = refuses einval
     mode false = may (not (creds.no_new_privs || has creds.effective cap_sys_admin))
 
+roots_set_up : (rings : Bool) (creds : Creds) → MakesRooted (set_up_effect rings creds)
+roots_set_up rings creds = roots_if rings (f.SetCreds 3 (after_set_up_ring creds)) (f.Refuse eperm)
+    (roots_clear 3 (after_set_up_ring creds)) (refuses eperm)
+
+roots_request : (host : Host) (caller : Caller) (request : Request) → MakesRooted (request_effect host caller request)
+roots_request host caller (ask.Stat path) = roots_looks _
+roots_request host caller (ask.Open path flags) = roots_looks _
+roots_request host caller (ask.Socket family) = roots_socket caller.newer caller.creds _
+roots_request host caller (ask.Mode mode) = gives 0
+
+roots_submit : (host : Host) (caller : Caller) (request : Request) → MakesRooted (submit_effect host caller request)
+roots_submit host caller request = roots_if caller.creds.ring (request_effect host caller request) (f.Refuse ebadf)
+    (roots_request host caller request) (refuses ebadf)
+
 pub roots_effect : (host : Host) (caller : Caller) (operation : Operation) → IsRooted caller.table → MakesRooted (effect_of host caller operation)
 roots_effect host caller (d.See path) h = roots_looks _
 roots_effect host caller (d.Open flags mode path) h = roots_looks _
-roots_effect host caller (d.Create path) h = roots_looks _
+roots_effect host caller (d.Create mode path) h = roots_looks _
 roots_effect host caller (d.Truncate path) h = roots_looks _
 roots_effect host caller (d.Execve path) h = roots_creds _
 roots_effect host caller (d.SetMode mode) h = gives 0
@@ -363,6 +380,8 @@ roots_effect host caller (d.Setgroups ids) h = roots_if caller.newer (f.Refuse e
 roots_effect host caller (d.Capset permitted effective inheritable) h = roots_creds _
 roots_effect host caller (d.Prctl option value third fourth fifth) h = roots_prctl_of host.mdwe caller.creds option value third fourth fifth
 roots_effect host caller (d.Seccomp op flags bytes) h = roots_seccomp caller.creds caller.stack op flags bytes
+roots_effect host caller d.SetUpRing h = roots_set_up host.rings caller.creds
+roots_effect host caller (d.Submit request) h = roots_submit host caller request
 roots_effect host caller (d.Plain cap) h = roots_alone caller.newer cap caller.creds 0
 
 -- a process in its namespace, whatever else of it changes
@@ -442,7 +461,7 @@ kernel_effect : (world : World) (pid : ℕ) (process : Process) (effect : Effect
     → EffectCase world pid process effect out → Kernel out.1
 kernel_effect world pid process effect out k h t r (case.refuses errno) = k
 kernel_effect world pid process effect out k h t r (case.answers value) = k
-kernel_effect world pid process effect out k h t r (case.takes_creds creds) =
+kernel_effect world pid process effect out k h t r (case.takes_creds value creds) =
     kernel_process world pid (record process { creds = creds }) k
     (spaced (length world.namespaces) process (record process { creds = creds }) h refl)
 kernel_effect world pid process effect out k h t r (case.takes_table table) = kernel_table world process.namespace table k r.rooted
@@ -536,7 +555,7 @@ told_effect : (world : World) (pid : ℕ) (process : Process) (effect : Effect) 
     → EffectCase world pid process effect out → (out.1.calls ≡ world.calls) × (out.1.site ≡ world.site)
 told_effect world pid process effect out (case.refuses errno) = (refl, refl)
 told_effect world pid process effect out (case.answers value) = (refl, refl)
-told_effect world pid process effect out (case.takes_creds creds) = (refl, refl)
+told_effect world pid process effect out (case.takes_creds value creds) = (refl, refl)
 told_effect world pid process effect out (case.takes_table table) = (refl, refl)
 told_effect world pid process effect out (case.takes_program program) = (refl, refl)
 told_effect world pid process effect out (case.no_process_left own full) = (refl, refl)

@@ -92,7 +92,7 @@ module _ (calls : calls.Table) (site : Site) (state : State) (place at pid : ℕ
   left_by : (effect : Effect) → Now effect (done_here (parts process space.table) effect)
   left_by (f.Refuse errno) = with_reply (reply.Refused errno) _ _ same
   left_by (f.Answer value) = with_reply (reply.Done value) _ _ same
-  left_by (f.SetCreds creds) = with_reply (reply.Done 0) _ _ (one_process (record process { creds = creds }))
+  left_by (f.SetCreds value creds) = with_reply (reply.Done value) _ _ (one_process (record process { creds = creds }))
   left_by (f.SetTable now) = with_reply (reply.Done 0) _ _ (one_table now)
   left_by (f.Push program) = with_reply (reply.Done 0) _ _ (one_process (record process { stack = process.stack ++ program ∷ [] }))
   left_by (f.Child own) = (refl, same)
@@ -109,7 +109,7 @@ module _ (calls : calls.Table) (site : Site) (state : State) (place at pid : ℕ
 unless_done : (old : Parts) (effect : Effect) → UnlessReplied (done_here old effect).0 ((done_here old effect).1 ≡ old)
 unless_done old (f.Refuse errno) = tt
 unless_done old (f.Answer value) = tt
-unless_done old (f.SetCreds creds) = tt
+unless_done old (f.SetCreds value creds) = tt
 unless_done old (f.SetTable now) = tt
 unless_done old (f.Push program) = tt
 unless_done old (f.Child own) = refl

@@ -25,7 +25,7 @@ oldest_effect : (programs : List (List Insn)) (world : World) (pid : ℕ) (proce
     → EffectCase world pid process effect out → OfEach (StandsOn programs) out.1
 oldest_effect programs world pid process effect out all h (case.refuses errno) = all
 oldest_effect programs world pid process effect out all h (case.answers value) = all
-oldest_effect programs world pid process effect out all h (case.takes_creds creds) =
+oldest_effect programs world pid process effect out all h (case.takes_creds value creds) =
     each-set (StandsOn programs) world.processes (pid - 1) (record process { creds = creds }) all h
 oldest_effect programs world pid process effect out all h (case.takes_table table) = all
 oldest_effect programs world pid process effect out all h (case.takes_program program) =

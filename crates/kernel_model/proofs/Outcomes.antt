@@ -21,7 +21,7 @@ looked old reply (Err errno) e = rw e refl
 pub answered : (old : Parts) (reply : Reply) (effect : Effect) → Answers reply effect → (Replied reply, old) ≡ done_here old effect
 answered old reply (f.Refuse errno) e = rw e refl
 answered old reply (f.Answer value) e = rw e refl
-answered old reply (f.SetCreds creds) e = absurd e
+answered old reply (f.SetCreds value creds) e = absurd e
 answered old reply (f.SetTable table) e = absurd e
 answered old reply (f.Push program) e = absurd e
 answered old reply (f.Child own) e = absurd e
@@ -34,7 +34,7 @@ pub changed : (process : Process) (table : Table) (reply : Reply) (new : Creds) 
     → (Replied reply, parts (record process { creds = new }) table) ≡ done_here (parts process table) effect
 changed process table reply new (f.Refuse errno) e = rw (e.0, e.1) refl
 changed process table reply new (f.Answer value) e = rw (e.0, e.1) refl
-changed process table reply new (f.SetCreds creds) e = rw (e.0, e.1) refl
+changed process table reply new (f.SetCreds value creds) e = rw (e.0, e.1) refl
 changed process table reply new (f.SetTable after) e = absurd e
 changed process table reply new (f.Push program) e = absurd e
 changed process table reply new (f.Child own) e = absurd e
@@ -54,7 +54,7 @@ pub mounted : (process : Process) (table : Table) (reply : Reply) (new : Table) 
 mounted process table reply new (f.Refuse errno) e = rw (e.0, e.1) refl
 mounted process table reply new (f.SetTable after) e = rw (e.0, e.1) refl
 mounted process table reply new (f.Answer value) e = absurd e
-mounted process table reply new (f.SetCreds creds) e = absurd e
+mounted process table reply new (f.SetCreds value creds) e = absurd e
 mounted process table reply new (f.Push program) e = absurd e
 mounted process table reply new (f.Child own) e = absurd e
 mounted process table reply new f.OwnTable e = absurd e
@@ -68,7 +68,7 @@ pub pushed : (process : Process) (table : Table) (reply : Reply) (new : List (Li
 pushed process table reply new (f.Refuse errno) e = rw (e.0, e.1) refl
 pushed process table reply new (f.Push program) e = rw (e.0, e.1) refl
 pushed process table reply new (f.Answer value) e = absurd e
-pushed process table reply new (f.SetCreds creds) e = absurd e
+pushed process table reply new (f.SetCreds value creds) e = absurd e
 pushed process table reply new (f.SetTable after) e = absurd e
 pushed process table reply new (f.Child own) e = absurd e
 pushed process table reply new f.OwnTable e = absurd e

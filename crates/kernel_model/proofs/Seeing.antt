@@ -1,13 +1,13 @@
 -- What finding a row, an empty directory or nothing says of the path, and back.
 use Rattle.std.proofs.Common.{◌≡◌, ◌⊎◌, inl, inr, ℕ, ◌++◌, ◌∙◌, Bool, true, false, cond, Option, Some, None, Result, Ok, Err}
 use Rattle.std.proofs.Common.{option_and_then, refl, ap}
-use Rattle.std.specs.Prelude.{not, ◌==◌}
+use Rattle.std.specs.Prelude.{not, ◌==◌, ◌&&◌}
 use Rattle.site_table.specs.abs_path.Paths.{Path}
 use Rattle.site_table.specs.abs_path.Prefix.{is_same, rest_of}
 use Rattle.site_table.proofs.OfAbsPath.Prefixes.{same_path, same_itself}
 use Rattle.kern_mounts.specs.linux_numbers.Errnos.{enoent, eacces, eisdir, einval, erofs}
 use Rattle.site_table.specs.declared.row.Row.{Row}
-use Rattle.site_table.specs.Kinds.{is_dir, is_exe}
+use Rattle.site_table.specs.Kinds.{is_dir, is_exe, is_dev}
 use Rattle.kern_mounts.specs.declared.step.MountStep.{MountStep}
 use Rattle.kern_mounts.specs.declared.step.What.{What}
 use Rattle.kern_mounts.specs.declared.step.What.TheVariants.{Host, Empty, Hidden}
@@ -129,16 +129,17 @@ pub written_may_be : (rows : Path → Option Row) (table : Table) (path : Path) 
     → write_answer value (flags_at table path) (finds rows table path) ≡ Ok value → IsWritableFile rows table path
 written_may_be rows table path value e = by (finds rows table path) refl e
   where
-    tests : (dir only : Bool) → ◌≡◌ {A = Result ℕ ℕ} (cond dir (Err eisdir) (cond only (Err erofs) (Ok value))) (Ok value)
-        → (dir ≡ false) × (only ≡ false)
-    tests true only e = absurd (cc)
-    tests false true e = absurd (cc)
-    tests false false e = (refl, refl)
+    tests : (dir only dev : Bool) → ◌≡◌ {A = Result ℕ ℕ} (cond dir (Err eisdir) (cond (only && not dev) (Err erofs) (Ok value))) (Ok value)
+        → (dir ≡ false) × (dev ≡ false → only ≡ false)
+    tests true only dev e = absurd (cc)
+    tests false true false e = absurd (cc)
+    tests false true true e = (refl, λ h. cc)
+    tests false false dev e = (refl, λ h. refl)
 
     by : (o : Found Row) → finds rows table path ≡ o → write_answer value (flags_at table path) o ≡ Ok value
         → IsWritableFile rows table path
     by (row found) is e =
-        let passed = tests (is_dir found.kind) (flags_at table path).read_only e in
+        let passed = tests (is_dir found.kind) (flags_at table path).read_only (is_dev found.kind) e in
         record { found = found; shown = row_shown rows table path found is; file = passed.0; writable = passed.1 }
     by empty_directory is e = absurd (cc)
     by (nothing errno) is e = absurd (cc)
@@ -147,8 +148,15 @@ pub may_be_written : (rows : Path → Option Row) (table : Table) (path : Path) 
     → write_answer value (flags_at table path) (finds rows table path) ≡ Ok value
 may_be_written rows table path value may =
     ap (write_answer value (flags_at table path)) (shown_row rows table path may.found may.shown)
-    ∙ ap (λ dir. cond {A = Result ℕ ℕ} dir (Err eisdir) (cond (flags_at table path).read_only (Err erofs) (Ok value))) may.file
-    ∙ ap (λ only. cond {A = Result ℕ ℕ} only (Err erofs) (Ok value)) may.writable
+    ∙ ap (λ dir. cond {A = Result ℕ ℕ} dir (Err eisdir) (cond ((flags_at table path).read_only && not (is_dev may.found.kind)) (Err erofs)
+    (Ok value))) may.file
+    ∙ ap (λ kept. cond {A = Result ℕ ℕ} kept (Err erofs) (Ok value))
+    (not_kept (flags_at table path).read_only (is_dev may.found.kind) may.writable)
+  where
+    not_kept : (only dev : Bool) → (dev ≡ false → only ≡ false) → (only && not dev) ≡ false
+    not_kept true true h = refl
+    not_kept true false h = h refl
+    not_kept false dev h = refl
 
 abbrev tried : Bool → Bool → Program → Result Program ℕ
 tried exe stopped program = cond (not exe) (Err eacces) (cond stopped (Err eacces) (Ok program))

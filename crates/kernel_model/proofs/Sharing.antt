@@ -75,7 +75,7 @@ forked world pid process value effect out made is (case.shares room) e =
     }
 forked world pid process value effect out made is (case.refuses errno) e = cc
 forked world pid process value effect out made is (case.answers other) e = cc
-forked world pid process value effect out made is (case.takes_creds creds) e = cc
+forked world pid process value effect out made is (case.takes_creds other creds) e = cc
 forked world pid process value effect out made is (case.takes_table table) e = cc
 forked world pid process value effect out made is (case.takes_program program) e = cc
 forked world pid process value effect out made is (case.no_process_left own full) e = cc
@@ -124,7 +124,7 @@ cloned world pid process value effect out made is (case.gives_copy room space) e
     }
 cloned world pid process value effect out made is (case.refuses errno) e = cc
 cloned world pid process value effect out made is (case.answers other) e = cc
-cloned world pid process value effect out made is (case.takes_creds creds) e = cc
+cloned world pid process value effect out made is (case.takes_creds other creds) e = cc
 cloned world pid process value effect out made is (case.takes_table table) e = cc
 cloned world pid process value effect out made is (case.takes_program program) e = cc
 cloned world pid process value effect out made is (case.no_process_left own full) e = cc
@@ -155,7 +155,7 @@ unshared world pid process value effect out made is (case.moves space) e = recor
 unshared world pid process value effect out made is (case.gives_copy room space) e = cc
 unshared world pid process value effect out made is (case.refuses errno) e = cc
 unshared world pid process value effect out made is (case.answers other) e = cc
-unshared world pid process value effect out made is (case.takes_creds creds) e = cc
+unshared world pid process value effect out made is (case.takes_creds other creds) e = cc
 unshared world pid process value effect out made is (case.takes_table table) e = cc
 unshared world pid process value effect out made is (case.takes_program program) e = cc
 unshared world pid process value effect out made is (case.no_process_left own full) e = cc

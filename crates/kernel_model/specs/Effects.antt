@@ -21,6 +21,7 @@ use Rattle.kern_creds.specs.Setgroups.{after_setgroups}
 use Rattle.kern_creds.specs.Capset.{after_capset}
 use Rattle.kern_creds.specs.Prctl.{after_drop_bounding, after_raise, after_lower, after_clear_ambient, after_set_keepcaps}
 use Rattle.kern_creds.specs.Prctl.{after_set_no_new_privs, after_set_mdwe}
+use Rattle.kern_creds.specs.Ring.{after_set_up_ring}
 use Rattle.kern_mounts.specs.Finds.{finds}
 use Rattle.kern_mounts.specs.Mounts.{Mounts as Table, steps_of}
 use Rattle.kernel_model.specs.kern_files.Bits.{has_some, has_all}
@@ -29,7 +30,9 @@ use Rattle.kernel_model.specs.kern_files.Executing.{exec_answer_in}
 use Rattle.kernel_model.specs.kernel_calls.Operation.{Operation, See, Open, Create, Truncate, Execve, SetMode, Map, Protect, Attach, Schedule}
 use Rattle.kernel_model.specs.kernel_calls.Operation.{Personality, Socket, Enter, Fork, Clone, Unshare, Exit, Mount, Umount, Setuid, Setgid}
 use Rattle.kernel_model.specs.kernel_calls.Operation.{Setresuid, Setresgid, Setgroups, Capset, Prctl, Seccomp, Plain, Socketcall, Socketpair}
-use Rattle.kernel_model.specs.kernel_calls.Operation.{SetAttributes}
+use Rattle.kernel_model.specs.kernel_calls.Operation.{SetAttributes, SetUpRing, Submit}
+use Rattle.kernel_model.specs.declared.kernel_calls.request.Request.{Request}
+use Rattle.kernel_model.specs.declared.kernel_calls.request.Request.TheVariants.{Stat, Open as AskOpen, Socket as AskSocket, Mode}
 use Rattle.kernel_model.specs.kern_files.MountCall.{after_mount}
 use Rattle.kernel_model.specs.kern_files.UmountCall.{umount_answer}
 
@@ -38,8 +41,8 @@ pub data Effect : Type 0 where
   Refuse : ℕ → Effect
   -- a value, and nothing changes
   Answer : ℕ → Effect
-  -- 0, and these become the caller's credentials
-  SetCreds : Creds → Effect
+  -- a value, and these become the caller's credentials
+  SetCreds : ℕ → Creds → Effect
   -- 0, and this becomes the table of the caller's namespace
   SetTable : Table → Effect
   -- 0, and the caller has this program on top of its others
@@ -66,11 +69,13 @@ pub record Caller : Type 0 where
   -- its mount namespace belongs to its user namespace
   pub owns : Bool
 
--- the host: its rows, the families of sockets, and whether its prctl(2) has PR_SET_MDWE and PR_GET_MDWE
+-- the host: its rows, the families of sockets, whether its prctl(2) has PR_SET_MDWE and PR_GET_MDWE, and whether processes can set up
+-- rings
 pub record Host : Type 0 where
   pub rows : Path → Option Row
   pub families : List CallLine
   pub mdwe : Bool
+  pub rings : Bool
 
 -- the effect of a rule that changes nothing
 abbrev pub looks : Result ℕ ℕ → Effect
@@ -79,7 +84,7 @@ looks (Err errno) = Refuse errno
 
 -- the effect of a rule on credentials, credentials(7)
 abbrev pub creds_effect : Result Creds ℕ → Effect
-creds_effect (Ok creds) = SetCreds creds
+creds_effect (Ok creds) = SetCreds 0 creds
 creds_effect (Err errno) = Refuse errno
 
 -- the effect of a rule on a mount table, mount_namespaces(7)
@@ -223,16 +228,16 @@ ambient_effect creds op cap =
     if op == 1 then is_set_effect creds cap
     else if op == 2 then creds_effect (after_raise creds cap)
     else if op == 3 then creds_effect (after_lower creds cap)
-    else if op == 4 then SetCreds (after_clear_ambient creds)
+    else if op == 4 then SetCreds 0 (after_clear_ambient creds)
     else Refuse einval
 
 -- PR_SET_NO_NEW_PRIVS: EINVAL for any value but 1
 abbrev pub no_new_privs_effect : Creds → ℕ → Effect
-no_new_privs_effect creds value = if value == 1 then SetCreds (after_set_no_new_privs creds) else Refuse einval
+no_new_privs_effect creds value = if value == 1 then SetCreds 0 (after_set_no_new_privs creds) else Refuse einval
 
 -- PR_SET_KEEPCAPS: EINVAL for any value but 0 and 1
 abbrev pub keepcaps_effect : Creds → ℕ → Effect
-keepcaps_effect creds value = if nat_lt value 2 then SetCreds (after_set_keepcaps creds (value == 1)) else Refuse einval
+keepcaps_effect creds value = if nat_lt value 2 then SetCreds 0 (after_set_keepcaps creds (value == 1)) else Refuse einval
 
 -- prctl(2): PR_SET_NO_NEW_PRIVS 38, PR_GET_NO_NEW_PRIVS 39, PR_SET_KEEPCAPS 8, PR_CAPBSET_DROP 24 and PR_CAP_AMBIENT 47; EINVAL
 -- for any other option
@@ -250,7 +255,7 @@ prctl_effect creds option value third =
 abbrev pub set_mdwe_effect : Creds → ℕ → Bool → Effect
 set_mdwe_effect creds value alone =
     if not alone then Refuse einval
-    else if value == 1 then SetCreds (after_set_mdwe creds)
+    else if value == 1 then SetCreds 0 (after_set_mdwe creds)
     else if value == 0 then (if creds.mdwe then Refuse eperm else Answer 0)
     else Refuse einval
 
@@ -274,12 +279,39 @@ seccomp_effect creds stack op flags bytes =
     else if not (creds.no_new_privs || has creds.effective cap_sys_admin) then Refuse eacces
     else push_effect stack (program_of bytes)
 
+-- a path is looked up, and what is there is seen
+abbrev pub see_effect : Host → Caller → Path → Effect
+see_effect host caller path = looks (see_answer 0 (finds host.rows (steps_of caller.table) path))
+
+-- and opened, with these flags
+abbrev pub open_effect : Host → Caller → ℕ → Path → Effect
+open_effect host caller flags path =
+    looks (open_answer flags (flags_at (steps_of caller.table) path) (finds host.rows (steps_of caller.table) path))
+
+-- a socket of the family of this number is made
+abbrev pub family_effect : Host → Caller → ℕ → Effect
+family_effect host caller family = socket_effect caller.newer caller.creds (numbered family host.families)
+
+-- io_uring_setup(2): EPERM if the host has no rings (sysctl kernel.io_uring_disabled). Its value is 3, like that of socket(2)
+abbrev pub set_up_effect : Bool → Creds → Effect
+set_up_effect rings creds = if rings then SetCreds 3 (after_set_up_ring creds) else Refuse eperm
+
+-- a request to a ring is performed as statx(2), openat(2), socket(2) and mkdirat(2) are
+abbrev pub request_effect : Host → Caller → Request → Effect
+request_effect host caller (Stat path) = see_effect host caller path
+request_effect host caller (AskOpen path flags) = open_effect host caller flags path
+request_effect host caller (AskSocket family) = family_effect host caller family
+request_effect host caller (Mode mode) = Answer 0
+
+-- io_uring_enter(2): EBADF without a ring. The reply is the one that the kernel gives to the request
+abbrev pub submit_effect : Host → Caller → Request → Effect
+submit_effect host caller request = if caller.creds.ring then request_effect host caller request else Refuse ebadf
+
 -- the effect of what a call asks for, once the caller's programs let the call through
 abbrev pub effect_of : Host → Caller → Operation → Effect
-effect_of host caller (See path) = looks (see_answer 0 (finds host.rows (steps_of caller.table) path))
-effect_of host caller (Open flags mode path) =
-    looks (open_answer flags (flags_at (steps_of caller.table) path) (finds host.rows (steps_of caller.table) path))
-effect_of host caller (Create path) =
+effect_of host caller (See path) = see_effect host caller path
+effect_of host caller (Open flags mode path) = open_effect host caller flags path
+effect_of host caller (Create mode path) =
     looks (write_answer 3 (flags_at (steps_of caller.table) path) (finds host.rows (steps_of caller.table) path))
 effect_of host caller (Truncate path) =
     looks (write_answer 0 (flags_at (steps_of caller.table) path) (finds host.rows (steps_of caller.table) path))
@@ -293,7 +325,7 @@ effect_of host caller (Attach flags) = attach_effect caller.creds flags
 effect_of host caller (Schedule policy) = looks (schedule_answer policy)
 effect_of host caller (SetAttributes policy) = attributes_effect caller.newer caller.creds policy
 effect_of host caller (Personality persona) = Answer 0
-effect_of host caller (Socket family) = socket_effect caller.newer caller.creds (numbered family host.families)
+effect_of host caller (Socket family) = family_effect host caller family
 effect_of host caller (Socketcall op family) = socketcall_effect caller.newer caller.creds op (numbered family host.families)
 effect_of host caller (Socketpair family) = socketpair_effect caller.newer caller.creds family (numbered family host.families)
 effect_of host caller Enter = Refuse ebadf
@@ -315,4 +347,6 @@ effect_of host caller (Setgroups ids) = with_groups caller.newer (creds_effect (
 effect_of host caller (Capset permitted effective inheritable) = creds_effect (after_capset caller.creds permitted effective inheritable)
 effect_of host caller (Prctl option value third fourth fifth) = prctl_effect_of host.mdwe caller.creds option value third fourth fifth
 effect_of host caller (Seccomp op flags bytes) = seccomp_effect caller.creds caller.stack op flags bytes
+effect_of host caller SetUpRing = set_up_effect host.rings caller.creds
+effect_of host caller (Submit request) = submit_effect host caller request
 effect_of host caller (Plain cap) = first_alone caller.newer cap (with_cap_of cap caller.creds (Answer 0))

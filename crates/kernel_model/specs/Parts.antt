@@ -23,7 +23,7 @@ caller_by process table owns = record { creds = process.creds; stack = process.s
 abbrev pub done_here : Parts → Effect → Outcome × Parts
 done_here old (Refuse errno) = (Replied (Refused errno), old)
 done_here old (Answer value) = (Replied (Done value), old)
-done_here old (SetCreds creds) = (Replied (Done 0), parts (record old.process { creds = creds }) old.table)
+done_here old (SetCreds value creds) = (Replied (Done value), parts (record old.process { creds = creds }) old.table)
 done_here old (SetTable table) = (Replied (Done 0), parts old.process table)
 done_here old (Push program) = (Replied (Done 0), parts (record old.process { stack = old.process.stack ++ program ∷ [] }) old.table)
 done_here old (Child own) = (MakesChild own, old)

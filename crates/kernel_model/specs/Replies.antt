@@ -19,7 +19,7 @@ zero_reply (Err errno) = Refused errno
 abbrev pub Answers : Reply → Effect → Type 0
 Answers reply (Refuse errno) = reply ≡ Refused errno
 Answers reply (Answer value) = reply ≡ Done value
-Answers reply (SetCreds creds) = ⊥
+Answers reply (SetCreds value creds) = ⊥
 Answers reply (SetTable table) = ⊥
 Answers reply (Push program) = ⊥
 Answers reply (Child own) = ⊥
@@ -32,7 +32,7 @@ Answers reply End = ⊥
 abbrev pub Changes : Creds → Reply → Creds → Effect → Type 0
 Changes old reply new (Refuse errno) = (reply ≡ Refused errno) × (new ≡ old)
 Changes old reply new (Answer value) = (reply ≡ Done value) × (new ≡ old)
-Changes old reply new (SetCreds creds) = (reply ≡ Done 0) × (new ≡ creds)
+Changes old reply new (SetCreds value creds) = (reply ≡ Done value) × (new ≡ creds)
 Changes old reply new (SetTable table) = ⊥
 Changes old reply new (Push program) = ⊥
 Changes old reply new (Child own) = ⊥
@@ -46,7 +46,7 @@ abbrev pub Mounts : Table → Reply → Table → Effect → Type 0
 Mounts old reply new (Refuse errno) = (reply ≡ Refused errno) × (new ≡ old)
 Mounts old reply new (SetTable table) = (reply ≡ Done 0) × (new ≡ table)
 Mounts old reply new (Answer value) = ⊥
-Mounts old reply new (SetCreds creds) = ⊥
+Mounts old reply new (SetCreds value creds) = ⊥
 Mounts old reply new (Push program) = ⊥
 Mounts old reply new (Child own) = ⊥
 Mounts old reply new OwnTable = ⊥
@@ -59,7 +59,7 @@ abbrev pub Pushes : List (List Insn) → Reply → List (List Insn) → Effect �
 Pushes old reply new (Refuse errno) = (reply ≡ Refused errno) × (new ≡ old)
 Pushes old reply new (Push program) = (reply ≡ Done 0) × (new ≡ old ++ program ∷ [])
 Pushes old reply new (Answer value) = ⊥
-Pushes old reply new (SetCreds creds) = ⊥
+Pushes old reply new (SetCreds value creds) = ⊥
 Pushes old reply new (SetTable table) = ⊥
 Pushes old reply new (Child own) = ⊥
 Pushes old reply new OwnTable = ⊥

@@ -28,7 +28,7 @@ abbrev pub world_with : Told → State → World
 world_with told state = world_of told.calls.now told.site.now state
 
 abbrev pub host_by : calls.Table → Site → Host
-host_by calls site = record { rows = row_at site.rows; families = calls.families; mdwe = has_mdwe site }
+host_by calls site = record { rows = row_at site.rows; families = calls.families; mdwe = has_mdwe site; rings = site.io_uring }
 
 abbrev pub host_with : Told → Host
 host_with told = host_by told.calls.now told.site.now

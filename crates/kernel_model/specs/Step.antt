@@ -53,7 +53,7 @@ has_user_left world = nat_lt world.users world.site.user_namespaces
 abbrev pub applied : World → ℕ → Process → Effect → Reply × World
 applied world pid process (Refuse errno) = (Refused errno, world)
 applied world pid process (Answer value) = (Done value, world)
-applied world pid process (SetCreds creds) = (Done 0, with_process world pid (record process { creds = creds }))
+applied world pid process (SetCreds value creds) = (Done value, with_process world pid (record process { creds = creds }))
 applied world pid process (SetTable table) = (Done 0, with_table world process.namespace table)
 applied world pid process (Push program) = (Done 0, with_process world pid (record process { stack = process.stack ++ program ∷ [] }))
 applied world pid process (Child own) = if nat_lt (length world.processes) most_processes then child_of world process own else

@@ -25,8 +25,8 @@ pub record Passes (world : World) (call : Call) (process : Process) : Type 0 whe
 pub data EffectCase (world : World) (pid : ℕ) (process : Process) : Effect → Reply × World → Type 0 where
   refuses : (errno : ℕ) → EffectCase world pid process (Refuse errno) (Refused errno, world)
   answers : (value : ℕ) → EffectCase world pid process (Answer value) (Done value, world)
-  takes_creds : (creds : Creds) → EffectCase world pid process (SetCreds creds)
-      (Done 0, with_process world pid (record process { creds = creds }))
+  takes_creds : (value : ℕ) (creds : Creds) → EffectCase world pid process (SetCreds value creds)
+      (Done value, with_process world pid (record process { creds = creds }))
   takes_table : (table : Table) → EffectCase world pid process (SetTable table) (Done 0, with_table world process.namespace table)
   takes_program : (program : List Insn) → EffectCase world pid process (Push program)
       (Done 0, with_process world pid (record process { stack = process.stack ++ program ∷ [] }))

@@ -70,7 +70,7 @@ has_mdwe site = is_some site.systemd
 
 -- the tables of the host, as a rule sees them
 abbrev pub host_of : World → Host
-host_of world = record { rows = row_at world.site.rows; families = world.calls.families; mdwe = has_mdwe world.site }
+host_of world = record { rows = row_at world.site.rows; families = world.calls.families; mdwe = has_mdwe world.site; rings = world.site.io_uring }
 
 -- the user namespace that owns a mount namespace
 abbrev pub owner_of : World → ℕ → ℕ

@@ -24,6 +24,7 @@ mod perform;
 mod prctl;
 mod process;
 mod reply;
+mod rings;
 mod seccomp;
 mod state;
 mod steps;

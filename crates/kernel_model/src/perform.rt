@@ -80,7 +80,7 @@ pub(crate) fn perform(
     match *operation {
         Operation::See(path) => Ok(Replied(told.see(table, path))),
         Operation::Open(flags, _, path) => Ok(Replied(told.open(table, path, flags))),
-        Operation::Create(path) => Ok(Replied(told.create(table, path))),
+        Operation::Create(_, path) => Ok(Replied(told.create(table, path))),
         Operation::Truncate(path) => Ok(Replied(told.truncate(table, path))),
         Operation::Execve(path) => Ok(left(told.execute(&mut caller.creds, newer, table, path))),
         Operation::SetMode(_) | Operation::Personality(_) => Ok(Replied(Reply::Done(0))),
@@ -139,6 +139,8 @@ pub(crate) fn perform(
             let stack = &mut caller.stack;
             Ok(Replied(seccomp(alloc, &caller.creds, stack, op, flags, bytes)?))
         }
+        Operation::SetUpRing => Ok(Replied(told.set_up_ring(&mut caller.creds))),
+        Operation::Submit(request) => Ok(Replied(told.submit(caller, newer, table, request))),
         Operation::Plain(cap) => Ok(Replied(with_cap_of(cap, &caller.creds, newer, 0))),
     }
 }

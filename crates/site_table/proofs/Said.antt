@@ -9,7 +9,7 @@ use Rattle.toml.specs.Data.{Data, get, as_integer, as_bool}
 use Rattle.cap_sets.specs.Sets.{has as has_cap, none, union, single}
 use Rattle.cap_sets.proofs.Members.{has_union, has_single, has_none}
 use Rattle.site_table.specs.declared.kinds.RowKind.{RowKind}
-use Rattle.site_table.specs.declared.kinds.RowKind.TheVariants.{Dir, File, Exe}
+use Rattle.site_table.specs.declared.kinds.RowKind.TheVariants.{Dir, File, Exe, Dev}
 use Rattle.site_table.specs.declared.error.RowCause.TheVariants.{Key, Path as BadPath, Kind, Number, Caps, Both}
 use Rattle.site_table.specs.Caps.{as_cap, are_caps, caps_of}
 use Rattle.site_table.specs.Ids.{id_of, id_at, greatest_id}
@@ -78,6 +78,8 @@ dir_if File true h e = absurd (false≢true h)
 dir_if File false h e = absurd (false≢true e)
 dir_if Exe true h e = absurd (false≢true h)
 dir_if Exe false h e = absurd (false≢true e)
+dir_if Dev true h e = absurd (false≢true h)
+dir_if Dev false h e = absurd (false≢true e)
 
 -- `/` and `/proc` are directories if they are listed
 pub always_is_dir : (row : Data) → IsRight row → path_of row ≡ Some (row_of row).path → is_always_dir (row_of row).path ≡ true
@@ -108,6 +110,7 @@ no_exe_key : (kind : RowKind) (keys : Bool) → kind ≢ Exe → (is_exe kind ||
 no_exe_key Dir keys h e = not-true keys e
 no_exe_key File keys h e = not-true keys e
 no_exe_key Exe keys h e = absurd (h refl)
+no_exe_key Dev keys h e = not-true keys e
 
 pub exe_alone : (row : Data) → IsRight row → (row_of row).kind ≢ Exe
     → ((row_of row).setuid ≡ None) × ((row_of row).setgid ≡ None) × ((row_of row).caps ≡ none) × ((row_of row).effective ≡ false)

@@ -19,7 +19,7 @@ use Rattle.site_table.proofs.CapSets.{caps_known}
 use Rattle.abs_path.proofs.Prefixes.{same_path, part_itself}
 use Rattle.site_table.specs.declared.row.Row.{Row}
 use Rattle.site_table.specs.declared.kinds.RowKind.{RowKind}
-use Rattle.site_table.specs.declared.kinds.RowKind.TheVariants.{Dir, File, Exe}
+use Rattle.site_table.specs.declared.kinds.RowKind.TheVariants.{Dir, File, Exe, Dev}
 use Rattle.site_table.specs.declared.accounts.User.{User}
 use Rattle.site_table.specs.declared.accounts.Group.{Group}
 use Rattle.site_table.specs.declared.error.SiteError.{SiteError}
@@ -117,6 +117,7 @@ dir_listed rows before (row ∷ rest) path h apart some =
     dir_kind Dir e = refl
     dir_kind File e = absurd (false≢true e)
     dir_kind Exe e = absurd (false≢true e)
+    dir_kind Dev e = absurd (false≢true e)
 
     none_later : (rest : List Data) → has_row (map row_of rest) path ≡ false
         → AllByRecursion (λ row. path_of row ≡ Some (row_of row).path) rest → list_any (is_dir_at path) rest ≡ false

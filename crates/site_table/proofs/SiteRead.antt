@@ -20,27 +20,29 @@ use Rattle.site_table.specs.Reading.{top_faults, faults_of, site_in, unless_faul
 use Rattle.site_table.specs.Rows.{row_of}
 use Rattle.site_table.specs.Table.{Site, IsSite}
 use Rattle.site_table.specs.Versions.{systemd_at}
+use Rattle.site_table.specs.Rings.{rings_at}
 use Rattle.unit_names.specs.declared.version.Version.{Version}
 use Rattle.site_table.proofs.Answering.{accepted, stops_first}
 use Rattle.site_table.proofs.SiteHolds.{site_holds}
 
 -- the top has no fault, and the site is not too large
-pub record IsBegun (site : Data) (uid spaces : ℕ) (systemd : Option Version) : Type 0 where
+pub record IsBegun (site : Data) (uid spaces : ℕ) (systemd : Option Version) (io_uring : Bool) : Type 0 where
   pub top : (top_faults site ≡ []) × (id_at (codes "dynamic_uid") site ≡ Some uid) × (spaces_at site ≡ Some spaces)
       × (systemd_at site ≡ Some systemd)
+  pub rings : rings_at site ≡ io_uring
   pub size : is_too_large site ≡ false
 
-begun_faults : (site : Data) (uid spaces : ℕ) (systemd : Option Version) → IsBegun site uid spaces systemd → top_faults site ++ size_faults site ≡ []
-begun_faults site uid spaces systemd begun = ap (λ faults. faults ++ size_faults site) begun.top.0 ∙ ap (λ b. cond b (TooMany ∷ []) []) begun.size
+begun_faults : (site : Data) (uid spaces : ℕ) (systemd : Option Version) (io_uring : Bool) → IsBegun site uid spaces systemd io_uring → top_faults site ++ size_faults site ≡ []
+begun_faults site uid spaces systemd io_uring begun = ap (λ faults. faults ++ size_faults site) begun.top.0 ∙ ap (λ b. cond b (TooMany ∷ []) []) begun.size
 
-module _ (site : Data) (uid spaces : ℕ) (systemd : Option Version) (rows : List Row) (begun : IsBegun site uid spaces systemd) (rows_read : unless_fault (row_faults (rows_in site)) (rows_in_order (with_fixed (map row_of (rows_in site)))) ≡ Ok rows) where
+module _ (site : Data) (uid spaces : ℕ) (systemd : Option Version) (io_uring : Bool) (rows : List Row) (begun : IsBegun site uid spaces systemd io_uring) (rows_read : unless_fault (row_faults (rows_in site)) (rows_in_order (with_fixed (map row_of (rows_in site)))) ≡ Ok rows) where
   no_row : row_faults (rows_in site) ≡ []
   no_row = (accepted (row_faults (rows_in site)) (rows_in_order (with_fixed (map row_of (rows_in site)))) rows rows_read).0
 
   after_rows : faults_of site ≡ user_faults (users_in site) ++ group_faults (groups_in site)
   after_rows =
       ap (λ faults. ((faults ++ row_faults (rows_in site)) ++ user_faults (users_in site)) ++ group_faults (groups_in site))
-      (begun_faults site uid spaces systemd begun)
+      (begun_faults site uid spaces systemd io_uring begun)
       ∙ ap (λ faults. (faults ++ user_faults (users_in site)) ++ group_faults (groups_in site)) no_row
 
   -- a user has a fault, or memory ran out
@@ -72,7 +74,7 @@ module _ (site : Data) (uid spaces : ℕ) (systemd : Option Version) (rows : Lis
     -- the whole site has no fault
     pub record IsRead (groups : List Group) : Type 0 where
       pub faultless : faults_of site ≡ []
-      pub says : site_in site ≡ record { dynamic_uid = uid; user_namespaces = spaces; systemd = systemd; rows = rows; users = users; groups = groups }
+      pub says : site_in site ≡ record { dynamic_uid = uid; user_namespaces = spaces; systemd = systemd; io_uring = io_uring; rows = rows; users = users; groups = groups }
 
     pub whole : (groups : List Group) → unless_fault (group_faults (groups_in site)) (map group_of (groups_in site)) ≡ Ok groups
         → IsRead groups
@@ -83,15 +85,16 @@ module _ (site : Data) (uid spaces : ℕ) (systemd : Option Version) (rows : Lis
         let uid_said : unwrap_or (id_at (codes "dynamic_uid") site) 0 ≡ uid = ap (λ id. unwrap_or id 0) begun.top.1 in
         let spaces_said : unwrap_or (spaces_at site) 0 ≡ spaces = ap (λ id. unwrap_or id 0) begun.top.2 in
         let systemd_said : unwrap_or (systemd_at site) None ≡ systemd = ap (λ version. unwrap_or version None) begun.top.3 in
+        let rings_said : rings_at site ≡ io_uring = begun.rings in
         let groups_are : map group_of (groups_in site) ≡ groups = groups_said.1 in
         record { faultless = after_users ∙ groups_said.0; says = cc }
 
     pub holds : (groups : List Group) → IsRead groups → IsSite
-        (record { dynamic_uid = uid; user_namespaces = spaces; systemd = systemd; rows = rows; users = users; groups = groups })
+        (record { dynamic_uid = uid; user_namespaces = spaces; systemd = systemd; io_uring = io_uring; rows = rows; users = users; groups = groups })
     holds groups read = subst IsSite read.says (site_holds site read.faultless)
 
     pub answered : (groups : List Group) → IsRead groups → unless_fault (faults_of site) (site_in site)
-        ≡ Ok (record { dynamic_uid = uid; user_namespaces = spaces; systemd = systemd; rows = rows; users = users; groups = groups })
+        ≡ Ok (record { dynamic_uid = uid; user_namespaces = spaces; systemd = systemd; io_uring = io_uring; rows = rows; users = users; groups = groups })
     answered groups read = ap (λ faults. unless_fault faults (site_in site)) read.faultless ∙ ap Ok read.says
 
 -- ---- from the bytes

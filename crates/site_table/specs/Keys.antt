@@ -6,7 +6,7 @@ use Rattle.toml_shapes.specs.declared.keys.Need.TheVariants.{Must, May}
 
 abbrev pub top_keys : List KnownKey
 top_keys = (codes "dynamic_uid", Number, Must) ∷ (codes "user_namespaces", Number, May) ∷ (codes "systemd", Number, May) ∷
-    (codes "row", Tables, May) ∷ (codes "user", Tables, May) ∷ (codes "group", Tables, May) ∷ []
+    (codes "io_uring", Flag, May) ∷ (codes "row", Tables, May) ∷ (codes "user", Tables, May) ∷ (codes "group", Tables, May) ∷ []
 
 abbrev pub row_keys : List KnownKey
 row_keys =

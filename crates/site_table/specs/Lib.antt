@@ -2,6 +2,7 @@ pub mod Keys
 pub mod Kinds
 pub mod Ids
 pub mod Versions
+pub mod Rings
 pub mod Caps
 pub mod Paths
 pub mod Rows

@@ -18,6 +18,7 @@ use Rattle.site_table.specs.Owners.{has_doubled_name, is_wrong, user_of, group_o
 use Rattle.site_table.specs.Order.{with_fixed, rows_in_order}
 use Rattle.site_table.specs.Table.{Site}
 use Rattle.site_table.specs.Versions.{systemd_at}
+use Rattle.site_table.specs.Rings.{rings_at}
 use Rattle.unit_names.specs.declared.version.Version.{Version}
 
 -- the listed rows, users and groups
@@ -71,6 +72,7 @@ site_in site = record {
   dynamic_uid = unwrap_or (id_at (codes "dynamic_uid") site) 0;
   user_namespaces = unwrap_or (spaces_at site) 0;
   systemd = unwrap_or (systemd_at site) None;
+  io_uring = rings_at site;
   rows = rows_in_order (with_fixed (map row_of (rows_in site)));
   users = map user_of (users_in site);
   groups = map group_of (groups_in site);

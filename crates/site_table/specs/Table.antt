@@ -1,5 +1,5 @@
 -- A site has these parts and properties, and look-ups find rows, users and groups in it.
-use Rattle.std.specs.Prelude.{◌≡◌, ◌≢◌, ◌≤◌, ℕ, true, false, List, [], ◌∷◌, map, length, find, position, Option, Some, None, option_map}
+use Rattle.std.specs.Prelude.{◌≡◌, ◌≢◌, ◌≤◌, ℕ, Bool, true, false, List, [], ◌∷◌, map, length, find, position, Option, Some, None, option_map}
 use Rattle.std.specs.Prelude.{IfSome, IsSome, ◌==◌}
 use Rattle.std.specs.List.{AllByRecursion}
 use Rattle.std.specs.Str.{bytes_eq}
@@ -20,13 +20,22 @@ pub record Site : Type 0 where
   pub dynamic_uid : ℕ
   pub user_namespaces : ℕ
   pub systemd : Option Version
+  -- processes can set up rings, io_uring(7)
+  pub io_uring : Bool
   pub rows : List Row
   pub users : List User
   pub groups : List Group
 
-abbrev pub site_with : ℕ → ℕ → Option Version → List Row → List User → List Group → Site
-site_with uid spaces systemd rows users groups =
-    record { dynamic_uid = uid; user_namespaces = spaces; systemd = systemd; rows = rows; users = users; groups = groups }
+abbrev pub site_with : ℕ → ℕ → Option Version → Bool → List Row → List User → List Group → Site
+site_with uid spaces systemd io_uring rows users groups = record {
+  dynamic_uid = uid;
+  user_namespaces = spaces;
+  systemd = systemd;
+  io_uring = io_uring;
+  rows = rows;
+  users = users;
+  groups = groups;
+}
 
 -- the row of a path
 abbrev pub row_at : List Row → Path → Option Row

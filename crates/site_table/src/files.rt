@@ -67,7 +67,7 @@ fn may_be(kind: RowKind, has_exe_key: bool, path: &AbsPath) -> bool
 {
     match kind {
         RowKind::Dir => !has_exe_key,
-        RowKind::File => !has_exe_key && !is_always_dir(path),
+        RowKind::File | RowKind::Dev => !has_exe_key && !is_always_dir(path),
         RowKind::Exe => !is_always_dir(path),
     }
 }

@@ -3,10 +3,11 @@
 use toml_shapes::{Key, Need, Shape};
 
 /// The keys at the top.
-pub const TOP_KEYS: [Key; 6] = [
+pub const TOP_KEYS: [Key; 7] = [
     ("dynamic_uid", Shape::Number, Need::Must),
     ("user_namespaces", Shape::Number, Need::May),
     ("systemd", Shape::Number, Need::May),
+    ("io_uring", Shape::Flag, Need::May),
     ("row", Shape::Tables, Need::May),
     ("user", Shape::Tables, Need::May),
     ("group", Shape::Tables, Need::May),

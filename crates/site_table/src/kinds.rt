@@ -12,6 +12,8 @@ pub enum RowKind {
     File,
     /// An executable file.
     Exe,
+    /// A node of a device, mknod(2): a mount that is read-only does not keep it from being written.
+    Dev,
 }
 
 impl RowKind {
@@ -23,6 +25,7 @@ impl RowKind {
             "dir" => Some(RowKind::Dir),
             "file" => Some(RowKind::File),
             "exe" => Some(RowKind::Exe),
+            "dev" => Some(RowKind::Dev),
             _ => None,
         }
     }

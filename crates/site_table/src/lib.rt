@@ -21,6 +21,7 @@ mod order;
 mod owners;
 mod paths;
 mod reader;
+mod rings;
 mod row;
 mod rows;
 mod seen;

@@ -9,6 +9,7 @@ use crate::error::SiteError;
 use crate::ids::{id_at, spaces_at};
 use crate::keys::TOP_KEYS;
 use crate::owners::{read_groups, read_users};
+use crate::rings::rings_at;
 use crate::rows::read_rows;
 use crate::table::SiteTable;
 use crate::versions::systemd_at;
@@ -60,7 +61,16 @@ fn read_tree(alloc: Global, site: &Value) -> Result<SiteTable, SiteError>
     let rows = read_rows(alloc, elements_at(site, "row"))?;
     let users = read_users(alloc, elements_at(site, "user"))?;
     let groups = read_groups(alloc, elements_at(site, "group"))?;
-    Ok(SiteTable::new(dynamic_uid, user_namespaces, systemd, rows, users, groups))
+    let io_uring = rings_at(site);
+    Ok(SiteTable::new(
+        dynamic_uid,
+        user_namespaces,
+        systemd,
+        io_uring,
+        rows,
+        users,
+        groups,
+    ))
 }
 
 // returns the site that the bytes describe
@@ -81,9 +91,10 @@ fn read_bytes(alloc: Global, bytes: &[u8]) -> Result<SiteTable, SiteError>
 
 /// Reads the description of a site.
 ///
-/// The top keys are `dynamic_uid`, a number, `user_namespaces`, a number from 0 to 64, `systemd`, which is 252 or 257, and
-/// the arrays of tables `row`, `user` and `group`. All but the first may be missing. The tables have these keys:
-/// - A row has a `path` and a `kind`, which is `dir`, `file` or `exe`. An exe may have `setuid` and `setgid`, its
+/// The top keys are `dynamic_uid`, a number, `user_namespaces`, a number from 0 to 64, `systemd`, which is 252 or 257,
+/// `io_uring`, a boolean, and the arrays of tables `row`, `user` and `group`. All but the first may be missing. The tables have
+/// these keys:
+/// - A row has a `path` and a `kind`, which is `dir`, `file`, `exe` or `dev`. An exe may have `setuid` and `setgid`, its
 ///   owner's uid and its group's gid. It may also have `caps`, a list of names of capabilities, with a boolean
 ///   `effective`.
 /// - A user has `name`, `uid` and `gid`, and may have `groups`, a list of gids.

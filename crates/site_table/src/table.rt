@@ -1,6 +1,6 @@
 //! Defines a site, and finds rows, users and groups in it.
 //!
-//! A contract sees a site as its numbers, its version of systemd, and the lists of its rows, users and groups.
+//! A contract sees a site as its numbers, its version of systemd, whether it has rings, and the lists of its rows, users and groups.
 
 ghost use Rattle.std.specs.Prelude.{◌≡◌, ◌++◌, ◌<◌, length, slice_get, Some, option_copied, option_map, true};
 ghost use Rattle.abs_path.specs.Paths.{tail_of, parts_of};
@@ -25,6 +25,7 @@ pub struct SiteTable {
     dynamic_uid: u32,
     user_namespaces: u32,
     systemd: Option<Version>,
+    io_uring: bool,
     rows: Vec<Row>,
     users: NameTable<User>,
     groups: NameTable<Group>,
@@ -36,10 +37,10 @@ impl Model for SiteTable {
     ghost Value = { Site };
 
     ghost view = { λ site.
-        site_with site.dynamic_uid site.user_namespaces site.systemd site.rows.items site.users site.groups };
+        site_with site.dynamic_uid site.user_namespaces site.systemd site.io_uring site.rows.items site.users site.groups };
 
     ghost invariant = { λ site.
-        IsSite (site_with site.dynamic_uid site.user_namespaces site.systemd site.rows.items site.users site.groups) };
+        IsSite (site_with site.dynamic_uid site.user_namespaces site.systemd site.io_uring site.rows.items site.users site.groups) };
 }
 
 impl SiteTable {
@@ -48,17 +49,19 @@ impl SiteTable {
         dynamic_uid: u32,
         user_namespaces: u32,
         systemd: Option<Version>,
+        io_uring: bool,
         rows: Vec<Row>,
         users: NameTable<User>,
         groups: NameTable<Group>,
     ) -> SiteTable
-        requires { IsSite (site_with dynamic_uid user_namespaces systemd rows.items users groups) }
-        ensures { result ≡ site_with dynamic_uid user_namespaces systemd rows.items users groups }
+        requires { IsSite (site_with dynamic_uid user_namespaces systemd io_uring rows.items users groups) }
+        ensures { result ≡ site_with dynamic_uid user_namespaces systemd io_uring rows.items users groups }
     {
         SiteTable {
             dynamic_uid,
             user_namespaces,
             systemd,
+            io_uring,
             rows,
             users,
             groups,
@@ -87,6 +90,14 @@ impl SiteTable {
         ensures holds_of_each_site { IsSite self.now }
     {
         self.systemd
+    }
+
+    /// Returns whether processes can set up rings, io_uring(7).
+    pub fn io_uring(&self) -> bool
+        ensures io_uring { result ≡ self.now.io_uring }
+        ensures holds_of_each_site { IsSite self.now }
+    {
+        self.io_uring
     }
 
     /// Returns the number of rows, `/` and `/proc` among them.

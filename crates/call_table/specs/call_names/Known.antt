@@ -5,18 +5,18 @@ use Rattle.std.specs.Str.{bytes_eq}
 use Rattle.call_table.specs.declared.call_names.kernel.Kernel.{Kernel}
 use Rattle.call_table.specs.declared.call_names.kernel.Kernel.TheVariants.{Base, Linux}
 use Rattle.call_table.specs.declared.call_names.payload.PayloadForm.{PayloadForm}
-use Rattle.call_table.specs.declared.call_names.payload.PayloadForm.TheVariants.{Nothing, OnePath, TwoPaths, PathFlags, Sets, Ids, Number, Program}
+use Rattle.call_table.specs.declared.call_names.payload.PayloadForm.TheVariants.{Nothing, OnePath, TwoPaths, PathFlags, Sets, Ids, Number, Program, Request}
 use Rattle.call_table.specs.declared.call_names.known.KnownCall.{KnownCall}
 use Rattle.call_table.specs.declared.call_names.known.KnownCall.TheVariants.{Modelled, Absent}
 use Rattle.call_table.specs.declared.call_names.rule.Argument.{Argument}
 use Rattle.call_table.specs.declared.call_names.rule.Argument.TheVariants.{Second, Third}
 use Rattle.call_table.specs.declared.call_names.rule.CallRule.{CallRule}
-use Rattle.call_table.specs.declared.call_names.rule.CallRule.TheVariants.{See, Open, OpenWith, Create, Truncate, Execve, SetMode, Map, Protect}
+use Rattle.call_table.specs.declared.call_names.rule.CallRule.TheVariants.{See, Open, OpenWith, Create, CreateWith, Truncate, Execve, SetMode, Map, Protect}
 use Rattle.call_table.specs.declared.call_names.rule.CallRule.TheVariants.{Attach, Schedule, SetAttributes, Personality, Socket, Socketcall}
 use Rattle.call_table.specs.declared.call_names.rule.CallRule.TheVariants.{Socketpair, Enter, Fork}
 use Rattle.call_table.specs.declared.call_names.rule.CallRule.TheVariants.{Openat2, Clone, Clone3, Unshare, Exit, Mount, Umount, Setuid, Setgid, Setresuid}
 use Rattle.call_table.specs.declared.call_names.rule.CallRule.TheVariants.{Setresgid, Setreuid, Setregid, Setgroups, Capset}
-use Rattle.call_table.specs.declared.call_names.rule.CallRule.TheVariants.{Prctl, Seccomp}
+use Rattle.call_table.specs.declared.call_names.rule.CallRule.TheVariants.{Prctl, Seccomp, SetUpRing, Submit}
 
 -- arguments are counted from 0
 abbrev pub place_of : Argument → ℕ
@@ -94,22 +94,25 @@ known_calls =
     (codes "prctl", Modelled Prctl) ∷
     (codes "seccomp", Modelled Seccomp) ∷ []
 
--- what Linux has in place of the base kernel's entries of these names: open(2) and openat(2) give the mode of a file that they make,
--- which the base kernel does not look at; openat2(2), execveat(2), clone3(2) and fchmodat2(2) are like open(2), execve(2), clone(2) and
--- fchmodat(2); sched_setattr(2) takes a policy, socketpair(2) makes two sockets, and setreuid(2) and setregid(2) set the real and the
--- effective id
+-- what Linux has in place of the base kernel's entries of these names: open(2), openat(2) and creat(2) give the mode of a file that they
+-- make, which the base kernel does not look at; openat2(2), execveat(2), clone3(2) and fchmodat2(2) are like open(2), execve(2), clone(2)
+-- and fchmodat(2); sched_setattr(2) takes a policy, socketpair(2) makes two sockets, setreuid(2) and setregid(2) set the real and the
+-- effective id, io_uring_setup(2) makes a ring, and io_uring_enter(2) submits requests to it
 abbrev pub linux_calls : List (List ℕ × KnownCall)
 linux_calls =
     (codes "open", Modelled (OpenWith Second)) ∷
     (codes "openat", Modelled (OpenWith Third)) ∷
     (codes "openat2", Modelled Openat2) ∷
+    (codes "creat", Modelled CreateWith) ∷
     (codes "execveat", Modelled Execve) ∷
     (codes "clone3", Modelled Clone3) ∷
     (codes "fchmodat2", Modelled (SetMode Third)) ∷
     (codes "sched_setattr", Modelled SetAttributes) ∷
     (codes "socketpair", Modelled Socketpair) ∷
     (codes "setreuid", Modelled Setreuid) ∷
-    (codes "setregid", Modelled Setregid) ∷ []
+    (codes "setregid", Modelled Setregid) ∷
+    (codes "io_uring_setup", Modelled SetUpRing) ∷
+    (codes "io_uring_enter", Modelled Submit) ∷ []
 
 -- the entry of a name in a kernel, given the entry that Linux has in place of the base kernel's, if there is one
 abbrev pub entry_in : Option KnownCall → Kernel → Option KnownCall → Option KnownCall
@@ -131,6 +134,7 @@ form_of See = OnePath
 form_of (Open flags) = OnePath
 form_of (OpenWith flags) = OnePath
 form_of Create = OnePath
+form_of CreateWith = OnePath
 form_of Truncate = OnePath
 form_of Execve = OnePath
 form_of Umount = OnePath
@@ -142,6 +146,7 @@ form_of Socketcall = Number
 form_of SetAttributes = Number
 form_of Clone3 = Number
 form_of Seccomp = Program
+form_of Submit = Request
 form_of (SetMode mode) = Nothing
 form_of Map = Nothing
 form_of Protect = Nothing
@@ -162,3 +167,4 @@ form_of Setresgid = Nothing
 form_of Setreuid = Nothing
 form_of Setregid = Nothing
 form_of Prctl = Nothing
+form_of SetUpRing = Nothing

@@ -90,6 +90,7 @@ const LINUX_CALLS: &[(&str, KnownCall)] = &[
     ("open", Modelled(CallRule::OpenWith(Second))),
     ("openat", Modelled(CallRule::OpenWith(Third))),
     ("openat2", Modelled(CallRule::Openat2)),
+    ("creat", Modelled(CallRule::CreateWith)),
     ("execveat", Modelled(CallRule::Execve)),
     ("clone3", Modelled(CallRule::Clone3)),
     ("fchmodat2", Modelled(CallRule::SetMode(Third))),
@@ -97,6 +98,8 @@ const LINUX_CALLS: &[(&str, KnownCall)] = &[
     ("socketpair", Modelled(CallRule::Socketpair)),
     ("setreuid", Modelled(CallRule::Setreuid)),
     ("setregid", Modelled(CallRule::Setregid)),
+    ("io_uring_setup", Modelled(CallRule::SetUpRing)),
+    ("io_uring_enter", Modelled(CallRule::Submit)),
 ];
 
 fn known_calls() -> &'static [(&'static str, KnownCall)]

@@ -25,6 +25,8 @@ pub enum PayloadForm {
     Number,
     /// The bytes of a program, seccomp(2).
     Program,
+    /// A request to a ring, io_uring_enter(2).
+    Request,
 }
 
 /// Returns the form of the payload of the calls of a rule.
@@ -36,6 +38,7 @@ pub fn form_of(rule: CallRule) -> PayloadForm
         | CallRule::Open(_)
         | CallRule::OpenWith(_)
         | CallRule::Create
+        | CallRule::CreateWith
         | CallRule::Truncate
         | CallRule::Execve
         | CallRule::Umount => PayloadForm::OnePath,
@@ -45,6 +48,7 @@ pub fn form_of(rule: CallRule) -> PayloadForm
         CallRule::Setgroups => PayloadForm::Ids,
         CallRule::Socketcall | CallRule::SetAttributes | CallRule::Clone3 => PayloadForm::Number,
         CallRule::Seccomp => PayloadForm::Program,
+        CallRule::Submit => PayloadForm::Request,
         CallRule::SetMode(_)
         | CallRule::Map
         | CallRule::Protect
@@ -64,6 +68,7 @@ pub fn form_of(rule: CallRule) -> PayloadForm
         | CallRule::Setresgid
         | CallRule::Setreuid
         | CallRule::Setregid
-        | CallRule::Prctl => PayloadForm::Nothing,
+        | CallRule::Prctl
+        | CallRule::SetUpRing => PayloadForm::Nothing,
     }
 }

@@ -47,6 +47,8 @@ pub enum CallRule {
     OpenWith(Argument),
     /// creat(2) opens for writing. Asked: which rows are written.
     Create,
+    /// creat(2) of Linux, with the mode. Asked: also whether a set-id bit is given.
+    CreateWith,
     /// truncate(2) writes. Asked: which rows are written.
     Truncate,
     /// execve(2) and execveat(2). Asked: which rows are executed.
@@ -110,4 +112,9 @@ pub enum CallRule {
     Prctl,
     /// seccomp(2) installs a filter.
     Seccomp,
+    /// io_uring_setup(2) gives the process a ring.
+    SetUpRing,
+    /// io_uring_enter(2) submits requests to a ring. Asked: which rows are seen, read and written, which families have sockets, and
+    /// whether a set-id bit is given.
+    Submit,
 }

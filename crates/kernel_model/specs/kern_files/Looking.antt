@@ -1,11 +1,11 @@
 -- The results of calls that look at a path: they depend on the row at the path and on the flags of the path's mount
 -- (path_resolution(7), stat(2), open(2), truncate(2)).
-use Rattle.std.specs.Prelude.{ℕ, ◌==◌, ◌||◌, Bool, List, Option, Some, None, Result, Ok, Err, if◌then◌else◌}
+use Rattle.std.specs.Prelude.{ℕ, ◌==◌, ◌&&◌, ◌||◌, not, Bool, List, Option, Some, None, Result, Ok, Err, if◌then◌else◌}
 use Rattle.std.specs.Int.RustNames.{bit_and}
 use Rattle.site_table.specs.abs_path.Paths.{Path}
 use Rattle.kern_mounts.specs.linux_numbers.Errnos.{eisdir, einval, erofs}
 use Rattle.site_table.specs.declared.row.Row.{Row}
-use Rattle.site_table.specs.Kinds.{is_dir}
+use Rattle.site_table.specs.Kinds.{is_dir, is_dev}
 use Rattle.kern_mounts.specs.Entry.{entry_of}
 use Rattle.kern_mounts.specs.Finds.{Found, row, empty_directory, nothing}
 use Rattle.kern_mounts.specs.Table.{no_flags}
@@ -31,10 +31,14 @@ see_answer value (row found) = Ok value
 see_answer value empty_directory = Ok value
 see_answer value (nothing errno) = Err errno
 
--- open(2) for writing, creat(2), truncate(2): EISDIR for a directory, then EROFS on a read-only mount
+-- a read-only mount keeps what is on it from being written, but not the device to which a node leads
+abbrev pub is_kept : Flags → Row → Bool
+is_kept flags found = flags.read_only && not (is_dev found.kind)
+
+-- open(2) for writing, creat(2), truncate(2): EISDIR for a directory, then EROFS for what a read-only mount keeps
 abbrev pub write_answer : ℕ → Flags → Found Row → Result ℕ ℕ
 write_answer value flags (row found) =
-    if is_dir found.kind then Err eisdir else if flags.read_only then Err erofs else Ok value
+    if is_dir found.kind then Err eisdir else if is_kept flags found then Err erofs else Ok value
 write_answer value flags empty_directory = Err eisdir
 write_answer value flags (nothing errno) = Err errno
 

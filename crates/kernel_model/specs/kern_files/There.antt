@@ -2,7 +2,7 @@
 use Rattle.std.specs.Prelude.{◌≡◌, Bool, true, false, Option, Some}
 use Rattle.site_table.specs.abs_path.Paths.{Path}
 use Rattle.site_table.specs.declared.row.Row.{Row}
-use Rattle.site_table.specs.Kinds.{is_dir, is_exe}
+use Rattle.site_table.specs.Kinds.{is_dir, is_exe, is_dev}
 use Rattle.kern_mounts.specs.Entry.{entry_of}
 use Rattle.kern_mounts.specs.Finds.{host_place}
 use Rattle.kern_mounts.specs.Split.{Table}
@@ -32,12 +32,12 @@ pub record IsHidden (table : Table) (path : Path) : Type 0 where
   pub entry : entry_of table path ≡ Some step
   pub hidden : step.what ≡ Hidden directory
 
--- a file that is not a directory, on a mount that is not read-only
+-- a file that is not a directory, on a mount that is not read-only unless the file is a device
 pub record IsWritableFile (rows : Path → Option Row) (table : Table) (path : Path) : Type 0 where
   pub found : Row
   pub shown : ShowsRow rows table path found
   pub file : is_dir found.kind ≡ false
-  pub writable : (flags_at table path).read_only ≡ false
+  pub writable : is_dev found.kind ≡ false → (flags_at table path).read_only ≡ false
 
 -- an executable file on a mount that is not noexec, with its marks, and whether that mount is nosuid
 pub record IsProgram (rows : Path → Option Row) (table : Table) (path : Path) (program : Program) : Type 0 where

@@ -7,7 +7,8 @@ use Rattle.call_table.specs.declared.call_names.rule.CallRule.TheVariants as kno
 use Rattle.kern_mounts.specs.linux_numbers.Limits.{no_id}
 use Rattle.call_table.specs.Table.{Table, calls_in}
 use Rattle.kernel_model.specs.declared.kernel_calls.payload.Payload.{Payload}
-use Rattle.kernel_model.specs.declared.kernel_calls.payload.Payload.TheVariants.{Nothing, OnePath, TwoPaths, PathFlags, Sets, Ids, Number, Code}
+use Rattle.kernel_model.specs.declared.kernel_calls.payload.Payload.TheVariants.{Nothing, OnePath, TwoPaths, PathFlags, Sets, Ids, Number, Code, Ring}
+use Rattle.kernel_model.specs.declared.kernel_calls.request.Request.{Request}
 use Rattle.kernel_model.specs.declared.kernel_calls.call.Call.{Call}
 use Rattle.kernel_model.specs.declared.kernel_calls.rule.Rule.{Rule}
 use Rattle.kernel_model.specs.declared.kernel_calls.rule.Rule.TheVariants as rule
@@ -20,8 +21,8 @@ pub data Operation : Type 0 where
   See : Path → Operation
   -- open(2) and openat(2): the flags, the mode, and the path
   Open : ℕ → ℕ → Path → Operation
-  -- creat(2), truncate(2), and execve(2) and execveat(2)
-  Create : Path → Operation
+  -- creat(2): the mode and the path; truncate(2), and execve(2) and execveat(2)
+  Create : ℕ → Path → Operation
   Truncate : Path → Operation
   Execve : Path → Operation
   -- chmod(2), mkdir(2), mknod(2) and similar calls: the mode
@@ -61,6 +62,9 @@ pub data Operation : Type 0 where
   Prctl : ℕ → ℕ → ℕ → ℕ → ℕ → Operation
   -- seccomp(2): the operation, the flags and the bytes of the program
   Seccomp : ℕ → ℕ → List ℕ → Operation
+  -- io_uring_setup(2), and io_uring_enter(2): the request
+  SetUpRing : Operation
+  Submit : Request → Operation
   -- any other call: the capability of its line
   Plain : Option ℕ → Operation
 
@@ -74,6 +78,7 @@ bare operation (Sets permitted effective inheritable) = None
 bare operation (Ids ids) = None
 bare operation (Number number) = None
 bare operation (Code bytes) = None
+bare operation (Ring request) = None
 
 -- a call with one path
 abbrev pub by_path : (Path → Operation) → Payload → Option Operation
@@ -85,6 +90,7 @@ by_path operation (Sets permitted effective inheritable) = None
 by_path operation (Ids ids) = None
 by_path operation (Number number) = None
 by_path operation (Code bytes) = None
+by_path operation (Ring request) = None
 
 -- a call with two paths
 abbrev pub by_paths : (Path → Path → Operation) → Payload → Option Operation
@@ -96,6 +102,7 @@ by_paths operation (Sets permitted effective inheritable) = None
 by_paths operation (Ids ids) = None
 by_paths operation (Number number) = None
 by_paths operation (Code bytes) = None
+by_paths operation (Ring request) = None
 
 -- a call with one path and flags
 abbrev pub by_path_flags : (Path → ℕ → Operation) → Payload → Option Operation
@@ -107,6 +114,7 @@ by_path_flags operation (Sets permitted effective inheritable) = None
 by_path_flags operation (Ids ids) = None
 by_path_flags operation (Number number) = None
 by_path_flags operation (Code bytes) = None
+by_path_flags operation (Ring request) = None
 
 -- a call with three sets of capabilities
 abbrev pub by_sets : (ℕ → ℕ → ℕ → Operation) → Payload → Option Operation
@@ -118,6 +126,7 @@ by_sets operation (PathFlags path flags) = None
 by_sets operation (Ids ids) = None
 by_sets operation (Number number) = None
 by_sets operation (Code bytes) = None
+by_sets operation (Ring request) = None
 
 -- a call with a list of ids
 abbrev pub by_ids : (List ℕ → Operation) → Payload → Option Operation
@@ -129,6 +138,7 @@ by_ids operation (PathFlags path flags) = None
 by_ids operation (Sets permitted effective inheritable) = None
 by_ids operation (Number number) = None
 by_ids operation (Code bytes) = None
+by_ids operation (Ring request) = None
 
 -- a call with a number
 abbrev pub by_number : (ℕ → Operation) → Payload → Option Operation
@@ -140,6 +150,7 @@ by_number operation (PathFlags path flags) = None
 by_number operation (Sets permitted effective inheritable) = None
 by_number operation (Ids ids) = None
 by_number operation (Code bytes) = None
+by_number operation (Ring request) = None
 
 -- a call with the bytes of a program
 abbrev pub by_code : (List ℕ → Operation) → Payload → Option Operation
@@ -151,6 +162,19 @@ by_code operation (PathFlags path flags) = None
 by_code operation (Sets permitted effective inheritable) = None
 by_code operation (Ids ids) = None
 by_code operation (Number number) = None
+by_code operation (Ring request) = None
+
+-- a call with a request to a ring
+abbrev pub by_request : (Request → Operation) → Payload → Option Operation
+by_request operation (Ring request) = Some (operation request)
+by_request operation Nothing = None
+by_request operation (OnePath path) = None
+by_request operation (TwoPaths source target) = None
+by_request operation (PathFlags path flags) = None
+by_request operation (Sets permitted effective inheritable) = None
+by_request operation (Ids ids) = None
+by_request operation (Number number) = None
+by_request operation (Code bytes) = None
 
 -- what a call of a known rule asks for; None if its payload does not have the rule's form
 abbrev pub known_operation : CallRule → List ℕ → Payload → Option Operation
@@ -159,7 +183,8 @@ known_operation (known.Open flags) args payload = by_path (Open (low_word args (
 known_operation (known.OpenWith flags) args payload =
     by_path (Open (low_word args (place_of flags)) (low_word args (mode_place_of flags))) payload
 known_operation known.Openat2 args payload = by_path_flags (λ path flags. Open flags 0 path) payload
-known_operation known.Create args payload = by_path Create payload
+known_operation known.Create args payload = by_path (Create 0) payload
+known_operation known.CreateWith args payload = by_path (Create (low_word args 1)) payload
 known_operation known.Truncate args payload = by_path Truncate payload
 known_operation known.Execve args payload = by_path Execve payload
 known_operation (known.SetMode mode) args payload = bare (SetMode (low_word args (place_of mode))) payload
@@ -191,6 +216,8 @@ known_operation known.Capset args payload = by_sets Capset payload
 known_operation known.Prctl args payload =
     bare (Prctl (low_word args 0) (low_word args 1) (low_word args 2) (low_word args 3) (low_word args 4)) payload
 known_operation known.Seccomp args payload = by_code (Seccomp (low_word args 0) (low_word args 1)) payload
+known_operation known.SetUpRing args payload = bare SetUpRing payload
+known_operation known.Submit args payload = by_request Submit payload
 
 -- what a call of this rule asks for
 abbrev pub operation_by : Rule → List ℕ → Payload → Option Operation

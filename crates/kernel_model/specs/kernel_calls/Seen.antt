@@ -2,7 +2,7 @@
 use Rattle.kernel_model.specs.kernel_calls.Operation.{Operation, See, Open, Create, Truncate, Execve, SetMode, Map, Protect, Attach, Schedule}
 use Rattle.kernel_model.specs.kernel_calls.Operation.{SetAttributes, Personality, Socket, Socketcall, Socketpair, Enter, Fork, Clone, Unshare, Exit, Mount, Umount}
 use Rattle.kernel_model.specs.kernel_calls.Operation.{Setuid}
-use Rattle.kernel_model.specs.kernel_calls.Operation.{Setgid, Setresuid, Setresgid, Setgroups, Capset, Prctl, Seccomp, Plain, Asked, Lacking}
+use Rattle.kernel_model.specs.kernel_calls.Operation.{Setgid, Setresuid, Setresgid, Setgroups, Capset, Prctl, Seccomp, SetUpRing, Submit, Plain, Asked, Lacking}
 use Rattle.kernel_model.specs.kernel_calls.Operation.{Misformed, Does}
 use Rattle.kernel_model.specs.declared.kernel_calls.operation.Operation.{Operation as Lent}
 use Rattle.kernel_model.specs.declared.kernel_calls.operation.Operation.TheVariants as lent
@@ -13,7 +13,7 @@ use Rattle.kernel_model.specs.declared.kernel_calls.asked.Asked.TheVariants as a
 abbrev pub seen : Lent → Operation
 seen (lent.See path) = See path.now
 seen (lent.Open flags mode path) = Open flags mode path.now
-seen (lent.Create path) = Create path.now
+seen (lent.Create mode path) = Create mode path.now
 seen (lent.Truncate path) = Truncate path.now
 seen (lent.Execve path) = Execve path.now
 seen (lent.SetMode mode) = SetMode mode
@@ -41,6 +41,8 @@ seen (lent.Setgroups ids) = Setgroups ids.now
 seen (lent.Capset permitted effective inheritable) = Capset permitted effective inheritable
 seen (lent.Prctl option value third fourth fifth) = Prctl option value third fourth fifth
 seen (lent.Seccomp op flags code) = Seccomp op flags code.now
+seen lent.SetUpRing = SetUpRing
+seen (lent.Submit request) = Submit request.now
 seen (lent.Plain cap) = Plain cap
 
 abbrev pub asked_seen : LentAsked → Asked

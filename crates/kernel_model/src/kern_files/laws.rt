@@ -23,8 +23,8 @@ pub fn what_is_seen()
         ↔ (((found : Row) × ShowsRow rows table path found) ⊎ IsEmptyPlace table path) }
 {}
 
-/// A process can write a path if and only if it shows a file of the host that is not a directory, on a mount that is not
-/// read-only.
+/// A process can write a path if and only if it shows a file of the host that is not a directory. Unless the file is a device,
+/// the mount must not be read-only.
 pub fn what_may_be_written()
     ensures files_on_writable_mounts { (rows : Path → Option Row) (table : Table) (path : Path) (value : ℕ)
         → (write_answer value (flags_at table path) (finds rows table path) ≡ Ok value)

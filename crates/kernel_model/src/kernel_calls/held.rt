@@ -1,10 +1,11 @@
 //! What every call in a program satisfies: each number is in the range of its type.
 
 ghost use Rattle.std.specs.Prelude.{◌<◌, ◌^◌, All};
-ghost use Rattle.kernel_model.specs.kernel_calls.Calls.{IsPath, FitsPayload, IsCall};
+ghost use Rattle.kernel_model.specs.kernel_calls.Calls.{IsPath, FitsRequest, FitsPayload, IsCall};
 
 use crate::kernel_calls::call::Call;
 use crate::kernel_calls::payload::Payload;
+use crate::kernel_calls::request::Request;
 use abs_path::AbsPath;
 use site_table::CapSet;
 
@@ -50,6 +51,19 @@ fn number_fits(number: u32)
     let _number = number;
 }
 
+fn request_fits(request: &Request)
+    ensures { FitsRequest request.now }
+{
+    match request {
+        Request::Stat(path) => path_fits(path),
+        Request::Open(path, flags) => {
+            path_fits(path);
+            number_fits(*flags);
+        }
+        Request::Socket(number) | Request::Mode(number) => number_fits(*number),
+    }
+}
+
 fn payload_fits(payload: &Payload)
     ensures { FitsPayload payload.now }
 {
@@ -72,6 +86,7 @@ fn payload_fits(payload: &Payload)
         Payload::Ids(list) => ids_fit(list.list()),
         Payload::Number(number) => number_fits(*number),
         Payload::Code(code) => bytes_fit(code.list()),
+        Payload::Ring(request) => request_fits(request),
     }
 }
 

@@ -8,6 +8,7 @@ ghost use Rattle.kernel_model.specs.kernel_calls.Seen.{seen};
 
 use crate::kernel_calls::call::Call;
 use crate::kernel_calls::payload::Payload;
+use crate::kernel_calls::request::Request;
 use crate::kernel_calls::rule::Rule;
 use crate::kernel_calls::words::low_word;
 use abs_path::AbsPath;
@@ -22,8 +23,8 @@ pub enum Operation<'a> {
     See(&'a AbsPath),
     /// open(2) and openat(2), with the flags and the mode. The base kernel does not look at the mode: it is 0.
     Open(u32, u32, &'a AbsPath),
-    /// creat(2).
-    Create(&'a AbsPath),
+    /// creat(2), with the mode. The base kernel does not look at it: it is 0.
+    Create(u32, &'a AbsPath),
     /// truncate(2).
     Truncate(&'a AbsPath),
     /// execve(2) and execveat(2).
@@ -78,6 +79,10 @@ pub enum Operation<'a> {
     Prctl(u32, u32, u32, u32, u32),
     /// seccomp(2), with the operation, the flags and the bytes of the program.
     Seccomp(u32, u32, &'a [u8]),
+    /// io_uring_setup(2).
+    SetUpRing,
+    /// io_uring_enter(2), with the request.
+    Submit(&'a Request),
     /// Any other call, with the capability that its line in the table names.
     Plain(Option<u8>),
 }
@@ -103,6 +108,7 @@ fn bare_operation<'a>(rule: CallRule, args: &[u64; 6]) -> Option<Operation<'a>>
         CallRule::Clone => Operation::Clone(first),
         CallRule::Unshare => Operation::Unshare(first),
         CallRule::Exit => Operation::Exit,
+        CallRule::SetUpRing => Operation::SetUpRing,
         CallRule::Setuid => Operation::Setuid(first),
         CallRule::Setgid => Operation::Setgid(first),
         CallRule::Setresuid => Operation::Setresuid(first, second, third),
@@ -128,7 +134,8 @@ fn path_operation<'a>(rule: CallRule, args: &[u64; 6], path: &'a AbsPath) -> Opt
             let mode = low_word(args, flags.mode_place());
             Operation::Open(low_word(args, flags.place()), mode, path)
         }
-        CallRule::Create => Operation::Create(path),
+        CallRule::Create => Operation::Create(0, path),
+        CallRule::CreateWith => Operation::Create(low_word(args, 1), path),
         CallRule::Truncate => Operation::Truncate(path),
         CallRule::Execve => Operation::Execve(path),
         CallRule::Umount => Operation::Umount(path, low_word(args, 1)),
@@ -174,6 +181,10 @@ fn known_operation<'a>(
             CallRule::Seccomp => {
                 Some(Operation::Seccomp(low_word(args, 0), low_word(args, 1), code.list()))
             }
+            _ => None,
+        },
+        Payload::Ring(request) => match rule {
+            CallRule::Submit => Some(Operation::Submit(request)),
             _ => None,
         },
     }

@@ -3,6 +3,7 @@
 ghost use Rattle.std.specs.Prelude.{◌≡◌};
 ghost use Rattle.kernel_model.specs.kernel_calls.Calls.{form_of_payload};
 
+use crate::kernel_calls::request::Request;
 use abs_path::AbsPath;
 use call_table::ItemList;
 use call_table::call_names::PayloadForm;
@@ -34,6 +35,8 @@ pub enum Payload {
     Number(u32),
     /// The bytes of a program, seccomp(2).
     Code(Bytes),
+    /// A request to a ring, io_uring_enter(2).
+    Ring(Request),
 }
 
 impl Payload {
@@ -50,6 +53,7 @@ impl Payload {
             Payload::Ids(_) => PayloadForm::Ids,
             Payload::Number(_) => PayloadForm::Number,
             Payload::Code(_) => PayloadForm::Program,
+            Payload::Ring(_) => PayloadForm::Request,
         }
     }
 }

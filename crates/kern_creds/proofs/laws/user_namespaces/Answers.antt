@@ -7,7 +7,7 @@ pub returns-clause-entering_is_sound : goal.returns-clause-entering_is_sound
 returns-clause-entering_is_sound c = sound-entered
 
 pub returns-clause-entering_keeps : goal.returns-clause-entering_keeps
-returns-clause-entering_keeps c = λ creds. (refl, refl, refl, refl, refl)
+returns-clause-entering_keeps c = λ creds. (refl, refl, refl, refl, refl, refl)
 
 pub returns-clause-execve_stays_sound : goal.returns-clause-execve_stays_sound
 returns-clause-execve_stays_sound c = λ creds now file nosuid k e. (sound-exec true creds file nosuid k).held now e
