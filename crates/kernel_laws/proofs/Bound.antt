@@ -210,6 +210,7 @@ module _ (launch : Launch) (uids gids : Bool) (power : Power) (l : IsLaunched la
   kept_launch = record {
     no_new_privs = λ n. n;
     mdwe = λ n. n;
+    ring = λ e. let no' : true ≡ false = sym e ∙ l.no_ring in cc;
     bounding = within_self _;
     inheritable = above_if (lets launch SetsCaps) c.bounding c.inheritable c.inheritable (λ p. l.inheritable_bounding) (λ p. within_self _);
     permitted = above_if c.no_new_privs c.effective (union caps files) c.permitted (λ n. same_within _ _ (sym l.full))
@@ -265,6 +266,7 @@ is_closed launch uids gids l =
           (λ y. within_self _) (λ no'. cc);
       any_uid = λ p h id. or_left (any_by uids 7 (caps_by launch uids power)) _ (and_from (has (caps_by launch uids power) 7) uids h p);
       any_gid = λ p h id. or_left (any_by gids 6 (caps_by launch uids power)) _ (and_from (has (caps_by launch uids power) 6) gids h p);
+      ring = λ h. h;
       mount = λ p h. power_mounts (λ power. has (caps_by launch uids power) 21) (has (caps_by launch uids Nowise) 21)
           (lets launch ChangesMounts) (lets launch RemovesMounts) refl p h;
       umount = λ p h. power_unmounts (λ power. has (caps_by launch uids power) 21) (has (caps_by launch uids Nowise) 21)

@@ -44,7 +44,8 @@ use Rattle.kernel_model.specs.kernel_calls.Words.{low_word}
 use Rattle.kernel_model.specs.kern_files.Bits.{has_some, has_all}
 use Rattle.kernel_model.specs.declared.kernel_calls.payload.Payload.{Payload}
 use Rattle.kernel_model.specs.kernel_calls.Operation as d
-use Rattle.kernel_model.specs.kernel_calls.Operation.{Operation, bare, operation_by}
+use Rattle.kernel_model.specs.declared.kernel_calls.payload.Payload.TheVariants as pay
+use Rattle.kernel_model.specs.kernel_calls.Operation.{Operation, bare, by_path, operation_by}
 use Rattle.kernel_laws.specs.declared.question_types.kind.CallKind.{CallKind}
 use Rattle.kernel_laws.specs.declared.question_types.kind.CallKind.TheVariants as k
 use Rattle.filter_settings.specs.linux_numbers.declared.namespaces.NamespaceType.TheVariants as namespace
@@ -104,6 +105,12 @@ pub openat_rules : (line : CallLine) → HasRules line (codes "openat") (rule.Kn
 unfolding rule_of known_call
 openat_rules line by_kernel.Base found e = inl (some_same (rule.Known (known.Open argument.Third)) found e)
 openat_rules line by_kernel.Linux found e = inr (some_same (rule.Known (known.OpenWith argument.Third)) found e)
+
+-- creat(2), whose mode Linux looks at
+pub creat_rules : (line : CallLine) → HasRules line (codes "creat") (rule.Known known.Create) (rule.Known known.CreateWith)
+unfolding rule_of known_call
+creat_rules line by_kernel.Base found e = inl (some_same (rule.Known known.Create) found e)
+creat_rules line by_kernel.Linux found e = inr (some_same (rule.Known known.CreateWith) found e)
 
 -- fchmodat2(2), which the base kernel lacks
 pub fchmodat2_rules : (line : CallLine) → HasRules line (codes "fchmodat2") (rule.Known (known.SetMode argument.Third))
@@ -369,6 +376,26 @@ kind-Create (k.ForPath wish_to.Write) first e = ap (λ (w : List ℕ). low_word 
 kind-Create (k.ForPath wish_to.Exec) first e = cc
 kind-Create kind first e = cc
 
+-- creat(2) that is asked for a set-id bit by its mode
+created_mode : (mode : ℕ) (payload : Payload) (operation : Operation) → by_path (d.Create mode) payload ≡ Some operation
+    → asks k.OpensMode operation ≡ true → sets_id_bit mode ≡ true
+created_mode mode (pay.OnePath path) operation e h =
+    let own : d.Create mode path ≡ operation = cc in
+    id_bit mode (ap (asks k.OpensMode) own ∙ h)
+created_mode mode payload operation e h = cc
+
+-- the first words for another kind have no mode
+kind-CreateWith : (kind : CallKind) (mode : ℕ) (payload : Payload) (operation : Operation) (first : List ℕ)
+    → by_path (d.Create mode) payload ≡ Some operation → asks kind operation ≡ true → words kind (rule.Known known.CreateWith) ≡ Some first
+    → (low_word first 1 ≡ 0) ⊎ (sets_id_bit mode ≡ true)
+kind-CreateWith (k.ForPath wish_to.See) mode payload operation first e h are = cc
+kind-CreateWith (k.ForPath wish_to.Read) mode payload operation first e h are = cc
+kind-CreateWith (k.ForPath wish_to.Write) mode payload operation first e h are =
+    inl (ap (λ (w : List ℕ). low_word w 1) (sym (first_is no_words first are)))
+kind-CreateWith (k.ForPath wish_to.Exec) mode payload operation first e h are = cc
+kind-CreateWith k.OpensMode mode payload operation first e h are = inr (created_mode mode payload operation e h)
+kind-CreateWith kind mode payload operation first e h are = cc
+
 kind-Open-1 : (kind : CallKind) (first : List ℕ) → words kind (rule.Known (known.Open argument.Second)) ≡ Some first
     → has_bits (low_word first 1) 0x40 ≡ false
 kind-Open-1 (k.ForPath wish_to.See) first e = cc
@@ -611,9 +638,19 @@ module _ (line : CallLine) (rule' : Rule) (kind : CallKind) (payload : Payload) 
   suid_first h = by (is_one_of line.name seconds) (is_one_of line.name thirds) (bytes_eq line.name (codes "openat")) refl refl refl h
     where
       creates : Suid (codes "creat")
-      creates n = by_name refuses_mode (codes "creat") n (λ r.
-          let zero' = kind-Create kind first.args (words_at (rule.Known known.Create) (rule_is (codes "creat") (rule.Known known.Create) refl n)) in
-          let off : sets_id_bit (low first 1) ≡ false = ap sets_id_bit zero' in let on : sets_id_bit (low first 1) ≡ true = r in cc) h
+      creates n = by_name refuses_mode (codes "creat") n (given (rules_named line rule' is (codes "creat") _ _ (creat_rules line) n)) h
+        where
+          none : low_word first.args 1 ≡ 0 → sets_id_bit (low first 1) ≡ true → sets_id_bit (low input 1) ≡ true
+          none zero' r = let off : sets_id_bit (low first 1) ≡ false = ap sets_id_bit zero' in cc
+
+          given : (rule.Known known.Create ≡ rule') ⊎ (rule.Known known.CreateWith ≡ rule') → sets_id_bit (low first 1) ≡ true
+              → sets_id_bit (low input 1) ≡ true
+          given (inl own) r = none (kind-Create kind first.args (words_at (rule.Known known.Create) own)) r
+          given (inr own) r = elim (kind-CreateWith kind (low_word input.args 1) payload operation first.args
+              (ap (λ (r : Rule). operation_by r input.args payload) own ∙ does) asked (words_at (rule.Known known.CreateWith) own)) [
+            | inl zero' ↦ none zero' r
+            | inr bit ↦ bit
+          ]
 
       opens : Suid (codes "open")
       opens n = by_name refuses_mode (codes "open") n

@@ -10,12 +10,13 @@ use Rattle.kernel_model.specs.declared.kernel_calls.payload.Payload.{Payload}
 use Rattle.filter_settings.specs.linux_numbers.Limits.{no_id}
 use Rattle.filter_settings.specs.call_table.call_names.Known.{mode_place_of, place_of}
 use Rattle.filter_settings.specs.call_table.declared.call_names.rule.Argument.{Argument}
+use Rattle.kernel_model.specs.declared.kernel_calls.request.Request.{Request}
 use Rattle.kernel_model.specs.declared.kernel_calls.rule.Rule.TheVariants as rule
 use Rattle.filter_settings.specs.call_table.declared.call_names.rule.CallRule.TheVariants as known
 use Rattle.kernel_model.specs.declared.kernel_calls.rule.Rule.{Rule}
 use Rattle.kernel_model.specs.kernel_calls.Operation as d
 use Rattle.kernel_model.specs.kernel_calls.Operation.{Operation, operation_by}
-use Rattle.kernel_laws.specs.Denied.{path_for}
+use Rattle.kernel_laws.specs.Denied.{called_path}
 use Rattle.kernel_laws.specs.declared.question_types.wish.Wish.{Wish}
 use Rattle.kernel_laws.specs.declared.question_types.kind.CallKind.{CallKind}
 use Rattle.kernel_laws.specs.declared.question_types.wish.Wish.TheVariants as wish_to
@@ -31,7 +32,7 @@ Given operation rule' = (kind : CallKind) → asks kind operation ≡ true → H
 
 -- what names no path asks for nothing by path
 abbrev names : Wish → Operation → Bool
-names wish own = is_some (path_for wish own)
+names wish own = is_some (called_path wish own)
 
 abbrev names_path : Operation → Bool
 names_path own = names wish_to.See own || (names wish_to.Read own || (names wish_to.Write own || names wish_to.Exec own))
@@ -72,12 +73,20 @@ given-Openat2 flags path (k.ForPath wish_to.See) h = cc
 given-Openat2 flags path (k.ForPath wish_to.Exec) h = cc
 given-Openat2 flags path kind h = cc
 
-given-Create : (path : Path) → Given (d.Create path) (rule.Known known.Create)
+given-Create : (path : Path) → Given (d.Create 0 path) (rule.Known known.Create)
 given-Create path (k.ForPath wish_to.Write) h = record { args = _; are = refl }
 given-Create path (k.ForPath wish_to.See) h = cc
 given-Create path (k.ForPath wish_to.Read) h = cc
 given-Create path (k.ForPath wish_to.Exec) h = cc
 given-Create path kind h = cc
+
+given-CreateWith : (args : List ℕ) (path : Path) → Given (d.Create (low_word args 1) path) (rule.Known known.CreateWith)
+given-CreateWith args path (k.ForPath wish_to.Write) h = record { args = _; are = refl }
+given-CreateWith args path (k.ForPath wish_to.See) h = cc
+given-CreateWith args path (k.ForPath wish_to.Read) h = cc
+given-CreateWith args path (k.ForPath wish_to.Exec) h = cc
+given-CreateWith args path k.OpensMode h = record { args = _; are = refl }
+given-CreateWith args path kind h = cc
 
 given-Truncate : (path : Path) → Given (d.Truncate path) (rule.Known known.Truncate)
 given-Truncate path (k.ForPath wish_to.Write) h = record { args = _; are = refl }
@@ -235,6 +244,16 @@ given-Seccomp : (args : List ℕ) (bytes : List ℕ) → Given (d.Seccomp (low_w
 given-Seccomp args bytes (k.ForPath wish) h = no_wish (d.Seccomp (low_word args 0) (low_word args 1) bytes) refl wish h
 given-Seccomp args bytes kind h = cc
 
+given-SetUpRing : Given d.SetUpRing (rule.Known known.SetUpRing)
+given-SetUpRing k.SetsUpRing h = record { args = _; are = refl }
+given-SetUpRing (k.ForPath wish) h = no_wish d.SetUpRing refl wish h
+given-SetUpRing kind h = cc
+
+given-Submit : (request : Request) → Given (d.Submit request) (rule.Known known.Submit)
+given-Submit request k.Submits h = record { args = _; are = refl }
+given-Submit request (k.ForPath wish) h = no_wish (d.Submit request) refl wish h
+given-Submit request kind h = cc
+
 given-Plain : (number : Option ℕ) → Given (d.Plain number) (rule.Plain number)
 given-Plain number k.PlainCall h = record { args = _; are = refl }
 given-Plain number (k.ForPath wish) h = no_wish (d.Plain number) refl wish h
@@ -258,8 +277,11 @@ has_words (rule.Known known.Openat2) args (pay.PathFlags path flags) operation f
     by_same (d.Open flags 0 path) operation (rule.Known known.Openat2) (given-Openat2 flags path) (cc)
 has_words (rule.Known known.Openat2) args payload operation f = cc
 has_words (rule.Known known.Create) args (pay.OnePath path) operation f =
-    by_same (d.Create path) operation (rule.Known known.Create) (given-Create path) (cc)
+    by_same (d.Create 0 path) operation (rule.Known known.Create) (given-Create path) (cc)
 has_words (rule.Known known.Create) args payload operation f = cc
+has_words (rule.Known known.CreateWith) args (pay.OnePath path) operation f =
+    by_same (d.Create (low_word args 1) path) operation (rule.Known known.CreateWith) (given-CreateWith args path) (cc)
+has_words (rule.Known known.CreateWith) args payload operation f = cc
 has_words (rule.Known known.Truncate) args (pay.OnePath path) operation f =
     by_same (d.Truncate path) operation (rule.Known known.Truncate) (given-Truncate path) (cc)
 has_words (rule.Known known.Truncate) args payload operation f = cc
@@ -349,5 +371,11 @@ has_words (rule.Known known.Prctl) args payload operation f = cc
 has_words (rule.Known known.Seccomp) args (pay.Code bytes) operation f =
     by_same (d.Seccomp (low_word args 0) (low_word args 1) bytes) operation (rule.Known known.Seccomp) (given-Seccomp args bytes) (cc)
 has_words (rule.Known known.Seccomp) args payload operation f = cc
+has_words (rule.Known known.SetUpRing) args pay.Nothing operation f =
+    by_same d.SetUpRing operation (rule.Known known.SetUpRing) given-SetUpRing (cc)
+has_words (rule.Known known.SetUpRing) args payload operation f = cc
+has_words (rule.Known known.Submit) args (pay.Ring request) operation f =
+    by_same (d.Submit request) operation (rule.Known known.Submit) (given-Submit request) (cc)
+has_words (rule.Known known.Submit) args payload operation f = cc
 has_words (rule.Plain number) args pay.Nothing operation f = by_same (d.Plain number) operation (rule.Plain number) (given-Plain number) (cc)
 has_words (rule.Plain number) args payload operation f = cc

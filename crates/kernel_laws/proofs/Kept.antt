@@ -7,6 +7,7 @@ use Rattle.kernel_model.specs.kern_creds.declared.creds.Creds.{Creds}
 use Rattle.kernel_model.specs.kern_creds.Capset.{may_capset, with_sets, after_capset}
 use Rattle.kernel_model.specs.kern_creds.Prctl.{after_drop_bounding, after_raise, after_lower, after_clear_ambient, after_set_keepcaps}
 use Rattle.kernel_model.specs.kern_creds.Prctl.{after_set_no_new_privs, after_set_mdwe}
+use Rattle.kernel_model.specs.kern_creds.Ring.{after_set_up_ring}
 use Rattle.kernel_model.proofs.OfKernCreds.Answers.{Leaves, left_err, left_ok, left_if}
 use Rattle.kernel_laws.specs.Bounds.{Bounds, Keeps}
 use Rattle.kernel_model.proofs.OfCapSets.Members.{within_self, within_through, none_within, cut_within_left, cut_within_right, within_cut}
@@ -47,6 +48,23 @@ module _ (top : Bounds) (creds : Creds) (k : Keeps top creds) where
   pub kept-mdwe : Keeps top (after_set_mdwe creds)
   kept-mdwe = search rules
 
+  pub kept-ring : top.ring ≡ true → Keeps top (after_set_up_ring creds)
+  kept-ring on = record {
+    no_new_privs = k.no_new_privs;
+    mdwe = k.mdwe;
+    ring = λ e. on;
+    bounding = k.bounding;
+    inheritable = k.inheritable;
+    permitted = k.permitted;
+    effective = k.effective;
+    effective_permitted = k.effective_permitted;
+    ambient_permitted = k.ambient_permitted;
+    ambient_inheritable = k.ambient_inheritable;
+    uids = k.uids;
+    gids = k.gids;
+    groups = k.groups;
+  }
+
   pub kept-keepcaps : (on : Bool) → Keeps top (after_set_keepcaps creds on)
   kept-keepcaps on = search rules
 
@@ -69,6 +87,7 @@ module _ (top : Bounds) (creds : Creds) (k : Keeps top creds) where
       left_ok (Keeps top) (with_sets creds p e i) record {
         no_new_privs = k.no_new_privs;
         mdwe = k.mdwe;
+        ring = k.ring;
         bounding = k.bounding;
         inheritable = i';
         permitted = p';

@@ -122,6 +122,7 @@ module _ (top : Bounds) (creds : Creds) (file : FileCreds) (nosuid : Bool) (k : 
   kept-done = record {
     no_new_privs = k.no_new_privs;
     mdwe = k.mdwe;
+    ring = λ e. cc;
     bounding = k.bounding;
     inheritable = k.inheritable;
     permitted = permitted_top;

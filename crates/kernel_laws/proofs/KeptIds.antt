@@ -44,6 +44,7 @@ module _ (top : Bounds) where
   kept-switch false true creds pe k = record {
     no_new_privs = k.no_new_privs;
     mdwe = k.mdwe;
+    ring = k.ring;
     bounding = k.bounding;
     inheritable = k.inheritable;
     permitted = k.permitted;

@@ -1,6 +1,7 @@
 -- What a process in a newer user namespace does leaves the bounds on its ids, and on the tables of newer user namespaces.
 use Rattle.std.proofs.Common.{◌≡◌, ℕ, Bool, true, false, List, Option, Some, None, Result, Ok, Err, refl, cond, eqb, subst, sym}
 use Rattle.std.specs.Prelude.{◌&&◌, ◌||◌, ◌+◌, nat_lt, nat_le, length, not}
+use Rattle.std.proofs.lemmas.Bool.{and_from}
 use Rattle.kernel_model.specs.abs_path.Paths.{Path}
 use Rattle.filter_settings.specs.bpf_code.declared.machine.Insn.{Insn}
 use Rattle.filter_settings.specs.bpf_code.ProgramOf.{program_of}
@@ -28,17 +29,21 @@ use Rattle.kernel_model.specs.Effects.{looks, creds_effect, table_effect, first_
 use Rattle.kernel_model.specs.Effects.{socketcall_effect, clone_effect, unshare_effect, ambient_effect, prctl_effect, push_effect}
 use Rattle.kernel_model.specs.Effects.{seccomp_effect, newuser, other_spaces, newns, protect_effect, attach_effect, set_mdwe_effect}
 use Rattle.kernel_model.specs.Effects.{prctl_effect_of, attributes_effect, sockets_effect, socketpair_effect, no_pair}
+use Rattle.kernel_model.specs.Effects.{Host, set_up_effect, request_effect}
+use Rattle.kernel_model.specs.kern_creds.Ring.{after_set_up_ring}
+use Rattle.kernel_model.specs.declared.kernel_calls.request.Request.{Request}
+use Rattle.kernel_model.specs.declared.kernel_calls.request.Request.TheVariants as ask
 use Rattle.kernel_laws.specs.Bounds.{Bounds, KeepsIds}
 use Rattle.kernel_laws.specs.Ceiling.{TableIn, IsStable, IsSafe}
 use Rattle.kernel_laws.specs.Kinds.{asks}
-use Rattle.kernel_laws.specs.Launched.{Launch, lets}
+use Rattle.kernel_laws.specs.Launched.{Launch, lets, makes_ring}
 use Rattle.kernel_laws.specs.declared.question_types.kind.CallKind.{CallKind}
 use Rattle.filter_settings.specs.linux_numbers.declared.namespaces.NamespaceType.TheVariants.{User}
 use Rattle.kernel_laws.specs.declared.question_types.power.Power.{Power}
 use Rattle.kernel_laws.specs.declared.question_types.kind.CallKind.TheVariants as k
 use Rattle.kernel_laws.proofs.MaskBits.{user_flag}
 use Rattle.kernel_laws.proofs.Newer.{ids-clear_ambient, ids-no_new_privs, ids-keepcaps, ids-lower, ids-drop_bounding, ids-raise, ids-capset}
-use Rattle.kernel_laws.proofs.Newer.{ids-exec, ids-mdwe}
+use Rattle.kernel_laws.proofs.Newer.{ids-exec, ids-mdwe, ids-ring}
 
 module _ (launch : Launch) (power : Power) (top : Bounds) (below : Table → Type 0) (stable : IsStable launch power below) (ours : Bool) where
   abbrev Safe : Effect → Type 0
@@ -112,16 +117,16 @@ module _ (launch : Launch) (power : Power) (top : Bounds) (below : Table → Typ
       (λ e. safe_if (nat_lt 40 cap') (Refuse 22) (Answer (cond (has creds.ambient cap') 1 0)) (λ e. tt) (λ e. tt)) λ e.
       safe_if (eqb op 2) (creds_effect (after_raise creds cap')) _ (λ e. safe_creds _ (ids-raise top creds held cap')) λ e.
       safe_if (eqb op 3) (creds_effect (after_lower creds cap')) _ (λ e. safe_creds _ (ids-lower top creds held cap')) λ e.
-      safe_if (eqb op 4) (SetCreds (after_clear_ambient creds)) (Refuse 22) (λ e. ids-clear_ambient top creds held) (λ e. tt)
+      safe_if (eqb op 4) (SetCreds 0 (after_clear_ambient creds)) (Refuse 22) (λ e. ids-clear_ambient top creds held) (λ e. tt)
 
   safe_prctl : (creds : Creds) (option value third : ℕ) → KeepsIds top creds → Safe (prctl_effect creds option value third)
   safe_prctl creds option value third held =
-      safe_if (eqb option 38) (cond (eqb value 1) (SetCreds (after_set_no_new_privs creds)) (Refuse 22)) _
-      (λ e. safe_if (eqb value 1) (SetCreds (after_set_no_new_privs creds)) (Refuse 22) (λ e. ids-no_new_privs top creds held) (λ e. tt))
+      safe_if (eqb option 38) (cond (eqb value 1) (SetCreds 0 (after_set_no_new_privs creds)) (Refuse 22)) _
+      (λ e. safe_if (eqb value 1) (SetCreds 0 (after_set_no_new_privs creds)) (Refuse 22) (λ e. ids-no_new_privs top creds held) (λ e. tt))
       λ e.
       safe_if (eqb option 39) (Answer (cond creds.no_new_privs 1 0)) _ (λ e. tt) λ e.
-      safe_if (eqb option 8) (cond (nat_lt value 2) (SetCreds (after_set_keepcaps creds (eqb value 1))) (Refuse 22)) _
-      (λ e. safe_if (nat_lt value 2) (SetCreds (after_set_keepcaps creds (eqb value 1))) (Refuse 22)
+      safe_if (eqb option 8) (cond (nat_lt value 2) (SetCreds 0 (after_set_keepcaps creds (eqb value 1))) (Refuse 22)) _
+      (λ e. safe_if (nat_lt value 2) (SetCreds 0 (after_set_keepcaps creds (eqb value 1))) (Refuse 22)
       (λ e. ids-keepcaps top creds held (eqb value 1)) (λ e. tt)) λ e.
       safe_if (eqb option 24) (creds_effect (after_drop_bounding creds value)) _
       (λ e. safe_creds _ (ids-drop_bounding top creds held value)) λ e.
@@ -130,7 +135,7 @@ module _ (launch : Launch) (power : Power) (top : Bounds) (below : Table → Typ
   safe_set_mdwe : (creds : Creds) (value : ℕ) (alone : Bool) → KeepsIds top creds → Safe (set_mdwe_effect creds value alone)
   safe_set_mdwe creds value alone held =
       safe_if (not alone) (Refuse 22) _ (λ e. tt) λ e.
-      safe_if (eqb value 1) (SetCreds (after_set_mdwe creds)) _ (λ e. ids-mdwe top creds held) λ e.
+      safe_if (eqb value 1) (SetCreds 0 (after_set_mdwe creds)) _ (λ e. ids-mdwe top creds held) λ e.
       safe_if (eqb value 0) (cond creds.mdwe (Refuse 1) (Answer 0)) (Refuse 22)
       (λ e. safe_if creds.mdwe (Refuse 1) (Answer 0) (λ e. tt) (λ e. tt)) (λ e. tt)
 
@@ -148,6 +153,17 @@ module _ (launch : Launch) (power : Power) (top : Bounds) (below : Table → Typ
   safe_attach : (creds : Creds) (flags : ℕ) → Safe (attach_effect creds flags)
   safe_attach creds flags = safe_if ((has_all 0x8000 flags && not (has_all 0x1000 flags)) && creds.mdwe) (Refuse 13) (Answer 0) (λ e. tt)
       (λ e. tt)
+
+  safe_set_up : (rings : Bool) (creds : Creds) → KeepsIds top creds → (rings ≡ true → top.ring ≡ true) → Safe (set_up_effect rings creds)
+  safe_set_up rings creds held on = safe_if rings (SetCreds 3 (after_set_up_ring creds)) (Refuse 1) (λ e. ids-ring top creds held (on e))
+      (λ e. tt)
+
+  safe_request : (host : Host) (creds : Creds) (stack : List (List Insn)) (table : Table) (owns : Bool) (request : Request)
+      → Safe (request_effect host (record { creds = creds; stack = stack; table = table; newer = true; owns = owns }) request)
+  safe_request host creds stack table owns (ask.Stat path) = safe_looks _
+  safe_request host creds stack table owns (ask.Open path flags) = safe_looks _
+  safe_request host creds stack table owns (ask.Socket family) = safe_socket creds _
+  safe_request host creds stack table owns (ask.Mode mode) = tt
 
   safe_push : (stack : List (List Insn)) (program : Option (List Insn)) → Safe (push_effect stack program)
   safe_push stack None = tt
@@ -199,39 +215,45 @@ module _ (launch : Launch) (power : Power) (top : Bounds) (below : Table → Typ
     newer_caller creds stack = record { creds = creds; stack = stack; table = table; newer = true; owns = owns }
 
     pub safe_newer : (families : List CallLine) (mdwe : Bool) (creds : Creds) (stack : List (List Insn)) (operation : Operation) → KeepsIds top creds
-        → Through operation
-        → Safe (effect_of (record { rows = row_at launch.site.rows; families = families; mdwe = mdwe }) (newer_caller creds stack) operation)
-    safe_newer families mdwe creds stack (d.See path) held p = safe_looks _
-    safe_newer families mdwe creds stack (d.Open flags mode path) held p = safe_looks _
-    safe_newer families mdwe creds stack (d.Create path) held p = safe_looks _
-    safe_newer families mdwe creds stack (d.Truncate path) held p = safe_looks _
-    safe_newer families mdwe creds stack (d.Execve path) held p =
+        → Through operation → (makes_ring launch ≡ true → top.ring ≡ true)
+        → Safe (effect_of (record { rows = row_at launch.site.rows; families = families; mdwe = mdwe; rings = launch.site.io_uring }) (newer_caller creds stack) operation)
+    safe_newer families mdwe creds stack (d.See path) held p ring = safe_looks _
+    safe_newer families mdwe creds stack (d.Open flags mode path) held p ring = safe_looks _
+    safe_newer families mdwe creds stack (d.Create mode path) held p ring = safe_looks _
+    safe_newer families mdwe creds stack (d.Truncate path) held p ring = safe_looks _
+    safe_newer families mdwe creds stack (d.Execve path) held p ring =
         safe_exec creds (program_answer (flags_at (steps_of table) path) (finds (row_at launch.site.rows) (steps_of table) path)) held
-    safe_newer families mdwe creds stack (d.SetMode mode) held p = tt
-    safe_newer families mdwe creds stack (d.Map protection) held p = safe_protect creds protection
-    safe_newer families mdwe creds stack (d.Protect protection) held p = safe_protect creds protection
-    safe_newer families mdwe creds stack (d.Attach flags) held p = safe_attach creds flags
-    safe_newer families mdwe creds stack (d.Schedule policy) held p = safe_looks _
-    safe_newer families mdwe creds stack (d.Personality domain) held p = tt
-    safe_newer families mdwe creds stack (d.SetAttributes policy) held p = safe_attributes creds policy
-    safe_newer families mdwe creds stack (d.Socket family) held p = safe_socket creds _
-    safe_newer families mdwe creds stack (d.Socketcall op family) held p = safe_socketcall creds op _
-    safe_newer families mdwe creds stack (d.Socketpair family) held p = safe_socketpair creds family _
-    safe_newer families mdwe creds stack d.Enter held p = tt
-    safe_newer families mdwe creds stack d.Fork held p = tt
-    safe_newer families mdwe creds stack (d.Clone flags) held p = safe_clone creds flags (p (k.ForNamespace User))
-    safe_newer families mdwe creds stack (d.Unshare flags) held p = safe_unshare creds flags (p (k.ForNamespace User))
-    safe_newer families mdwe creds stack d.Exit held p = tt
-    safe_newer families mdwe creds stack (d.Mount source target flags) held p = safe_mount creds source target flags
-    safe_newer families mdwe creds stack (d.Umount path flags) held p = safe_umount creds path flags
-    safe_newer families mdwe creds stack (d.Setuid id) held p = tt
-    safe_newer families mdwe creds stack (d.Setgid id) held p = tt
-    safe_newer families mdwe creds stack (d.Setresuid real effective saved) held p = safe_ids real effective saved
-    safe_newer families mdwe creds stack (d.Setresgid real effective saved) held p = safe_ids real effective saved
-    safe_newer families mdwe creds stack (d.Setgroups ids) held p = tt
-    safe_newer families mdwe creds stack (d.Capset permitted effective inheritable) held p =
+    safe_newer families mdwe creds stack (d.SetMode mode) held p ring = tt
+    safe_newer families mdwe creds stack (d.Map protection) held p ring = safe_protect creds protection
+    safe_newer families mdwe creds stack (d.Protect protection) held p ring = safe_protect creds protection
+    safe_newer families mdwe creds stack (d.Attach flags) held p ring = safe_attach creds flags
+    safe_newer families mdwe creds stack (d.Schedule policy) held p ring = safe_looks _
+    safe_newer families mdwe creds stack (d.Personality domain) held p ring = tt
+    safe_newer families mdwe creds stack (d.SetAttributes policy) held p ring = safe_attributes creds policy
+    safe_newer families mdwe creds stack (d.Socket family) held p ring = safe_socket creds _
+    safe_newer families mdwe creds stack (d.Socketcall op family) held p ring = safe_socketcall creds op _
+    safe_newer families mdwe creds stack (d.Socketpair family) held p ring = safe_socketpair creds family _
+    safe_newer families mdwe creds stack d.Enter held p ring = tt
+    safe_newer families mdwe creds stack d.Fork held p ring = tt
+    safe_newer families mdwe creds stack (d.Clone flags) held p ring = safe_clone creds flags (p (k.ForNamespace User))
+    safe_newer families mdwe creds stack (d.Unshare flags) held p ring = safe_unshare creds flags (p (k.ForNamespace User))
+    safe_newer families mdwe creds stack d.Exit held p ring = tt
+    safe_newer families mdwe creds stack (d.Mount source target flags) held p ring = safe_mount creds source target flags
+    safe_newer families mdwe creds stack (d.Umount path flags) held p ring = safe_umount creds path flags
+    safe_newer families mdwe creds stack (d.Setuid id) held p ring = tt
+    safe_newer families mdwe creds stack (d.Setgid id) held p ring = tt
+    safe_newer families mdwe creds stack (d.Setresuid real effective saved) held p ring = safe_ids real effective saved
+    safe_newer families mdwe creds stack (d.Setresgid real effective saved) held p ring = safe_ids real effective saved
+    safe_newer families mdwe creds stack (d.Setgroups ids) held p ring = tt
+    safe_newer families mdwe creds stack (d.Capset permitted effective inheritable) held p ring =
         safe_creds _ (ids-capset top creds held permitted effective inheritable)
-    safe_newer families mdwe creds stack (d.Prctl option value third fourth fifth) held p =
+    safe_newer families mdwe creds stack (d.Prctl option value third fourth fifth) held p ring =
         safe_prctl_of mdwe creds option value third fourth fifth held
-    safe_newer families mdwe creds stack (d.Seccomp op flags bytes) held p = safe_seccomp creds stack op flags bytes
-    safe_newer families mdwe creds stack (d.Plain cap') held p = safe_alone cap' creds 0
+    safe_newer families mdwe creds stack (d.Seccomp op flags bytes) held p ring = safe_seccomp creds stack op flags bytes
+    safe_newer families mdwe creds stack d.SetUpRing held p ring =
+        safe_set_up launch.site.io_uring creds held (λ on. ring (and_from _ _ on (p k.SetsUpRing refl)))
+    safe_newer families mdwe creds stack (d.Submit request) held p ring =
+        let host : Host = record { rows = row_at launch.site.rows; families = families; mdwe = mdwe; rings = launch.site.io_uring } in
+        safe_if creds.ring (request_effect host (newer_caller creds stack) request) (Refuse 9)
+        (λ e. safe_request host creds stack table owns request) (λ e. tt)
+    safe_newer families mdwe creds stack (d.Plain cap') held p ring = safe_alone cap' creds 0

@@ -278,7 +278,7 @@ module _ (launch : Launch) (power : Power) (top : Bounds) (below : Table → Typ
         → All (applied world pid process effect).1
     held_applied world pid process (f.Refuse errno) held h safe = held
     held_applied world pid process (f.Answer value) held h safe = held
-    held_applied world pid process (f.SetCreds creds) held h safe =
+    held_applied world pid process (f.SetCreds value creds) held h safe =
         held_put world pid (record process { creds = creds }) held
         (with_creds world.namespaces process (record process { creds = creds }) h safe refl refl refl)
     held_applied world pid process (f.SetTable table) held h safe = record {
@@ -350,7 +350,7 @@ module _ (launch : Launch) (power : Power) (top : Bounds) (below : Table → Typ
           → (is_newer process ≡ false → Uses uids gids process.creds operation)
           → IsSafe launch power top below (is_newer process) (eqb h.space.owner 1) (effect_of (host_of world) (caller_of world process) operation)
       safe_of world call process held h {operation = operation} through uses =
-          let P : Site → Type 0 = λ s. IsSafe launch power top below (is_newer process) (eqb h.space.owner 1) (effect_of (record { rows = row_at s.rows; families = world.calls.families; mdwe = has_mdwe s }) (caller_of world process) operation) in
+          let P : Site → Type 0 = λ s. IsSafe launch power top below (is_newer process) (eqb h.space.owner 1) (effect_of (record { rows = row_at s.rows; families = world.calls.families; mdwe = has_mdwe s; rings = s.io_uring }) (caller_of world process) operation) in
           subst P (sym held.site) (by (is_newer process) refl h.creds (own_allowed world process h))
         where
           apart : is_newer process ≡ true → eqb (owner_of world process.namespace) process.user ≡ true → eqb h.space.owner 1 ≡ false
@@ -361,16 +361,16 @@ module _ (launch : Launch) (power : Power) (top : Bounds) (below : Table → Typ
 
           by : (b : Bool) → is_newer process ≡ b → KeepsIn b top process.creds
               → TableIn (eqb h.space.owner 1) launch power below (mounts_of world process.namespace)
-              → IsSafe launch power top below b (eqb h.space.owner 1) (effect_of (record { rows = row_at launch.site.rows; families = world.calls.families; mdwe = has_mdwe launch.site }) (record { creds = process.creds; stack = process.stack; table = mounts_of world process.namespace; newer = b; owns = eqb (owner_of world process.namespace) process.user }) operation)
+              → IsSafe launch power top below b (eqb h.space.owner 1) (effect_of (record { rows = row_at launch.site.rows; families = world.calls.families; mdwe = has_mdwe launch.site; rings = launch.site.io_uring }) (record { creds = process.creds; stack = process.stack; table = mounts_of world process.namespace; newer = b; owns = eqb (owner_of world process.namespace) process.user }) operation)
           by true new kept allowed =
               safe_newer launch power top below stable (eqb h.space.owner 1) (eqb (owner_of world process.namespace) process.user) (apart new)
-              (mounts_of world process.namespace) allowed world.calls.families (has_mdwe launch.site) process.creds process.stack operation kept through
+              (mounts_of world process.namespace) allowed world.calls.families (has_mdwe launch.site) process.creds process.stack operation kept through closed.ring
           by false first kept allowed =
               let home : h.space.owner ≡ 1 = h.home first in
               let user : process.user ≡ 1 = eqb-true process.user 1 (not-false (eqb process.user 1) first) in
               let owns : eqb (owner_of world process.namespace) process.user ≡ true = eq-eqb (owner_of world process.namespace) process.user (own_owner world process h ∙ home ∙ sym user) in
-              let P : Bool → Type 0 = λ o. IsSafe launch power top below false (eqb h.space.owner 1) (effect_of (record { rows = row_at launch.site.rows; families = world.calls.families; mdwe = has_mdwe launch.site }) (record { creds = process.creds; stack = process.stack; table = mounts_of world process.namespace; newer = false; owns = o }) operation) in
-              let Q : ℕ → Type 0 = λ o. IsSafe launch power top below false (eqb o 1) (effect_of (record { rows = row_at launch.site.rows; families = world.calls.families; mdwe = has_mdwe launch.site }) (record { creds = process.creds; stack = process.stack; table = mounts_of world process.namespace; newer = false; owns = true }) operation) in
+              let P : Bool → Type 0 = λ o. IsSafe launch power top below false (eqb h.space.owner 1) (effect_of (record { rows = row_at launch.site.rows; families = world.calls.families; mdwe = has_mdwe launch.site; rings = launch.site.io_uring }) (record { creds = process.creds; stack = process.stack; table = mounts_of world process.namespace; newer = false; owns = o }) operation) in
+              let Q : ℕ → Type 0 = λ o. IsSafe launch power top below false (eqb o 1) (effect_of (record { rows = row_at launch.site.rows; families = world.calls.families; mdwe = has_mdwe launch.site; rings = launch.site.io_uring }) (record { creds = process.creds; stack = process.stack; table = mounts_of world process.namespace; newer = false; owns = true }) operation) in
               subst P (sym owns) (subst Q (sym home)
               (safe_effect launch uids gids power top below closed world.calls.families (has_mdwe launch.site) process.creds process.stack
               (mounts_of world process.namespace) operation kept (first_allowed world process h first) through (uses first)))

@@ -104,6 +104,7 @@ path_fit wish_to.Write (known.OpenWith at) first e = by_same (one_word (place_of
 path_fit wish_to.Read known.Openat2 first e = by_same no_words first bare_words e
 path_fit wish_to.Write known.Openat2 first e = by_same no_words first bare_words e
 path_fit wish_to.Write known.Create first e = by_same no_words first bare_words e
+path_fit wish_to.Write known.CreateWith first e = by_same no_words first bare_words e
 path_fit wish_to.Write known.Truncate first e = by_same no_words first bare_words e
 path_fit wish_to.Exec known.Execve first e = by_same no_words first bare_words e
 path_fit wish call first e = cc
@@ -133,6 +134,7 @@ known_fit k.TakesPersonality known.Personality first h e = by_same (one_word 0 8
 known_fit k.SetsMode (known.SetMode at) first h e = by_same (one_word (place_of at) 0x800) first
     (word_words (place_of at) 0x800 (omega arith)) e
 known_fit k.OpensMode (known.OpenWith at) first h e = by_same (made_words at) first (made_small at) e
+known_fit k.OpensMode known.CreateWith first h e = by_same (one_word 1 0x800) first (word_words 1 0x800 (omega arith)) e
 known_fit k.ChangesMounts known.Mount first h e = by_same no_words first bare_words e
 known_fit k.RemovesMounts known.Umount first h e = by_same no_words first bare_words e
 known_fit k.SetsCaps known.Capset first h e = by_same no_words first bare_words e
@@ -143,6 +145,8 @@ known_fit k.TakesGid known.Setgid first h e = by_same no_words first bare_words 
 known_fit k.TakesGid known.Setresgid first h e = by_same no_words first bare_words e
 known_fit k.TakesGid known.Setregid first h e = by_same no_words first bare_words e
 known_fit k.TakesGid known.Setgroups first h e = by_same no_words first bare_words e
+known_fit k.SetsUpRing known.SetUpRing first h e = by_same no_words first bare_words e
+known_fit k.Submits known.Submit first h e = by_same no_words first bare_words e
 known_fit kind call first h e = cc
 
 plain_fit : (kind : CallKind) (cap' : Option ℕ) (first : List ℕ) → words kind (rule.Plain cap') ≡ Some first → AreWords first

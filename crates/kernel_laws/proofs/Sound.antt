@@ -14,13 +14,16 @@ use Rattle.kernel_model.specs.kern_mounts.Finds.{Found, row, finds}
 use Rattle.kernel_model.specs.kern_mounts.declared.step.Flags.{Flags}
 use Rattle.std.specs.Int.RustNames.{bit_and}
 use Rattle.kernel_model.specs.kern_files.Bits.{has_some, has_all}
-use Rattle.kernel_model.specs.site_table.Kinds.{is_dir, is_exe}
+use Rattle.kernel_model.specs.site_table.Kinds.{is_dir, is_exe, is_dev}
 use Rattle.kernel_model.specs.kernel_calls.Operation as d
 use Rattle.kernel_model.specs.kernel_calls.Operation.{Operation}
+use Rattle.kernel_model.specs.declared.kernel_calls.request.Request.{Request}
+use Rattle.kernel_model.specs.declared.kernel_calls.request.Request.TheVariants as ask
 use Rattle.kernel_model.specs.Effects as f
 use Rattle.kernel_model.specs.Effects.{Effect, effect_of, looks, creds_effect, with_admin, newuser, other_spaces, newns}
-use Rattle.kernel_model.specs.kern_files.Looking.{flags_at, access_mode, is_writing, see_answer, write_answer, open_answer}
-use Rattle.filter_settings.specs.linux_numbers.Errnos.{eperm, eagain, eacces, enospc, eisdir, einval, erofs}
+use Rattle.kernel_model.specs.Effects.{open_effect, request_effect}
+use Rattle.kernel_model.specs.kern_files.Looking.{flags_at, is_kept, access_mode, is_writing, see_answer, write_answer, open_answer}
+use Rattle.filter_settings.specs.linux_numbers.Errnos.{eperm, ebadf, eagain, eacces, enospc, eisdir, einval, erofs}
 use Rattle.kernel_model.specs.declared.kern_files.program.Program.{Program}
 use Rattle.kernel_model.specs.kern_files.Executing.{marks_of, program_answer, executed_in, exec_answer_in}
 use Rattle.kernel_model.specs.World.{World, table_of, host_of, caller_of, is_newer, with_user, entered_by}
@@ -37,7 +40,7 @@ use Rattle.filter_settings.specs.linux_numbers.declared.namespaces.NamespaceType
 use Rattle.filter_settings.specs.linux_numbers.Namespaces.{flag_of}
 use Rattle.kernel_laws.specs.Denied.{path_for, asks_space, asks_map, asks_attach}
 use Rattle.kernel_laws.specs.Kinds.{asks_attach_read}
-use Rattle.kernel_laws.specs.Reach.{fits}
+use Rattle.kernel_laws.specs.Reach.{fits, mount_wish}
 use Rattle.kernel_laws.specs.Bound.{is_user}
 use Rattle.kernel_laws.proofs.Ran.{ran_program}
 
@@ -59,8 +62,8 @@ module _ (world : World) (pid : ℕ) (process : Process) where
   when' true errno effect h = (refl, h)
   when' false errno effect h = absurd h
 
-  write_done : (value : ℕ) (flags : Flags) (target : Row) → D (looks (write_answer value flags (row target))) → flags.read_only ≡ false
-  write_done value flags target h = by (is_dir target.kind) flags.read_only h
+  write_done : (value : ℕ) (flags : Flags) (target : Row) → D (looks (write_answer value flags (row target))) → is_kept flags target ≡ false
+  write_done value flags target h = by (is_dir target.kind) (is_kept flags target) h
     where
       by : (a b : Bool) → D (looks (cond {A = Result ℕ ℕ} a (Err eisdir) (cond {A = Result ℕ ℕ} b (Err erofs) (Ok value)))) → b ≡ false
       by true b h = absurd h
@@ -68,7 +71,7 @@ module _ (world : World) (pid : ℕ) (process : Process) where
       by false false h = refl
 
   open_done : (flags : ℕ) (entry : Flags) (target : Row) → is_writing flags ≡ true → D (looks (open_answer flags entry (row target)))
-      → entry.read_only ≡ false
+      → is_kept entry target ≡ false
   open_done flags entry target writing h = write_done 3 entry target (by (eqb (access_mode flags) 3) (is_writing flags) writing h)
     where
       by : (a b : Bool) → b ≡ true
@@ -77,6 +80,11 @@ module _ (world : World) (pid : ℕ) (process : Process) where
       by true b e h = absurd h
       by false true e h = h
       by false false e h = cc
+
+  -- io_uring_enter(2) is done by a process that has a ring, and as its request is
+  pub ring_done : (request : Request) → D (effect_of (host_of world) (caller_of world process) (d.Submit request))
+      → (process.creds.ring ≡ true) × D (request_effect (host_of world) (caller_of world process) request)
+  ring_done request h = when' process.creds.ring ebadf (request_effect (host_of world) (caller_of world process) request) h
 
   pub record RunDone (creds : Creds) (flags : Flags) (target : Row) : Type 0 where
     pub exe : is_exe target.kind ≡ true
@@ -100,37 +108,63 @@ module _ (world : World) (pid : ℕ) (process : Process) where
           let P : Program → Type 0 = λ p. D (creds_effect (exec_in newer creds p.file p.no_suid)) in
           record { exe = ran.exe; runs = ran.runs; taken = by_refused (is_refused creds (marks_of target) flags.no_suid) (subst P ran.is h) }
 
+-- what a read-only mount does not keep has the flags that its writing needs
+fits_kept : (flags : Flags) (target : Row) → is_kept flags target ≡ false → fits (mount_wish target.kind ToWrite) flags ≡ true
+fits_kept flags target h = by (is_dev target.kind) h
+  where
+    not_of : (only : Bool) → (only && not false) ≡ false → not only ≡ true
+    not_of true h = cc
+    not_of false h = refl
+
+    by : (dev : Bool) → (flags.read_only && not dev) ≡ false → fits (cond {A = Wish} dev ToRead ToWrite) flags ≡ true
+    by true h = refl
+    by false h = not_of flags.read_only h
+
+-- a file that is opened for writing has them
+opened_fits : (world : World) (pid : ℕ) (process : Process) (flags : ℕ) (own path : Path) (target : Row)
+    → cond (is_writing flags) (Some own) None ≡ Some path
+    → finds (row_at world.site.rows) (table_of world process.namespace) path ≡ row target
+    → DoneBy world pid process (open_effect (host_of world) (caller_of world process) flags own)
+    → fits (mount_wish target.kind ToWrite) (flags_at (table_of world process.namespace) path) ≡ true
+opened_fits world pid process flags own path target e g h = by (is_writing flags) refl e
+  where
+    by : (b : Bool) → is_writing flags ≡ b → cond b (Some own) None ≡ Some path
+        → fits (mount_wish target.kind ToWrite) (flags_at (table_of world process.namespace) path) ≡ true
+    by true is e =
+        let here : own ≡ path = cc in
+        let P : Found Row → Type 0 = λ found. DoneBy world pid process (looks (open_answer flags (flags_at (table_of world process.namespace) own) found)) in
+        let found : finds (row_at world.site.rows) (table_of world process.namespace) own ≡ row target = ap (finds (row_at world.site.rows) (table_of world process.namespace)) here ∙ g in
+        let free = open_done world pid process flags (flags_at (table_of world process.namespace) own) target is (subst P found h) in
+        ap (λ (p : Path). fits (mount_wish target.kind ToWrite) (flags_at (table_of world process.namespace) p)) (sym here)
+        ∙ fits_kept (flags_at (table_of world process.namespace) own) target free
+    by false is e = cc
+
+-- and so has one that creat(2) and truncate(2) write, with this value
+written_fits : (world : World) (pid : ℕ) (process : Process) (value : ℕ) (own path : Path) (target : Row) → own ≡ path
+    → finds (row_at world.site.rows) (table_of world process.namespace) path ≡ row target
+    → DoneBy world pid process (looks (write_answer value (flags_at (table_of world process.namespace) own)
+    (finds (row_at world.site.rows) (table_of world process.namespace) own)))
+    → fits (mount_wish target.kind ToWrite) (flags_at (table_of world process.namespace) path) ≡ true
+written_fits world pid process value own path target here g h =
+    let P : Found Row → Type 0 = λ found. DoneBy world pid process (looks (write_answer value (flags_at (table_of world process.namespace) own) found)) in
+    let found : finds (row_at world.site.rows) (table_of world process.namespace) own ≡ row target = ap (finds (row_at world.site.rows) (table_of world process.namespace)) here ∙ g in
+    let free = write_done world pid process value (flags_at (table_of world process.namespace) own) target (subst P found h) in
+    ap (λ (p : Path). fits (mount_wish target.kind ToWrite) (flags_at (table_of world process.namespace) p)) (sym here)
+    ∙ fits_kept (flags_at (table_of world process.namespace) own) target free
+
 -- a call that is done and whose path finds the row has the flags that it needs
 pub wish_fits : (world : World) (pid : ℕ) (process : Process) (wish : Wish) (operation : Operation) (path : Path) (target : Row)
     → path_for wish operation ≡ Some path
     → finds (row_at world.site.rows) (table_of world process.namespace) path ≡ row target
     → DoneBy world pid process (effect_of (host_of world) (caller_of world process) operation)
-    → fits wish (flags_at (table_of world process.namespace) path) ≡ true
+    → fits (mount_wish target.kind wish) (flags_at (table_of world process.namespace) path) ≡ true
 wish_fits world pid process ToSee operation path target e g h = refl
 wish_fits world pid process ToRead operation path target e g h = refl
-wish_fits world pid process ToWrite (d.Open flags mode own) path target e g h = by (is_writing flags) refl e
-  where
-    by : (b : Bool) → is_writing flags ≡ b → cond b (Some own) None ≡ Some path
-        → not (flags_at (table_of world process.namespace) path).read_only ≡ true
-    by true is e =
-        let here : own ≡ path = cc in
-        let P : Found Row → Type 0 = λ found. DoneBy world pid process (looks (open_answer flags (flags_at (table_of world process.namespace) own) found)) in
-        let found : finds (row_at world.site.rows) (table_of world process.namespace) own ≡ row target = ap (finds (row_at world.site.rows) (table_of world process.namespace)) here ∙ g in
-        let off = open_done world pid process flags (flags_at (table_of world process.namespace) own) target is (subst P found h) in
-        ap (λ (p : Path). not (flags_at (table_of world process.namespace) p).read_only) (sym here) ∙ ap not off
-    by false is e = cc
-wish_fits world pid process ToWrite (d.Create own) path target e g h =
-    let here : own ≡ path = cc in
-    let P : Found Row → Type 0 = λ found. DoneBy world pid process (looks (write_answer 3 (flags_at (table_of world process.namespace) own) found)) in
-    let found : finds (row_at world.site.rows) (table_of world process.namespace) own ≡ row target = ap (finds (row_at world.site.rows) (table_of world process.namespace)) here ∙ g in
-    let off = write_done world pid process 3 (flags_at (table_of world process.namespace) own) target (subst P found h) in
-    ap (λ (p : Path). not (flags_at (table_of world process.namespace) p).read_only) (sym here) ∙ ap not off
-wish_fits world pid process ToWrite (d.Truncate own) path target e g h =
-    let here : own ≡ path = cc in
-    let P : Found Row → Type 0 = λ found. DoneBy world pid process (looks (write_answer 0 (flags_at (table_of world process.namespace) own) found)) in
-    let found : finds (row_at world.site.rows) (table_of world process.namespace) own ≡ row target = ap (finds (row_at world.site.rows) (table_of world process.namespace)) here ∙ g in
-    let off = write_done world pid process 0 (flags_at (table_of world process.namespace) own) target (subst P found h) in
-    ap (λ (p : Path). not (flags_at (table_of world process.namespace) p).read_only) (sym here) ∙ ap not off
+wish_fits world pid process ToWrite (d.Open flags mode own) path target e g h = opened_fits world pid process flags own path target e g h
+wish_fits world pid process ToWrite (d.Create mode own) path target e g h = written_fits world pid process 3 own path target (cc) g h
+wish_fits world pid process ToWrite (d.Truncate own) path target e g h = written_fits world pid process 0 own path target (cc) g h
+wish_fits world pid process ToWrite (d.Submit (ask.Open own flags)) path target e g h =
+    opened_fits world pid process flags own path target e g (ring_done world pid process (ask.Open own flags) h).1
 wish_fits world pid process ToExec (d.Execve own) path target e g h =
     let here : own ≡ path = cc in
     let P : Found Row → Type 0 = λ found. DoneBy world pid process (creds_effect (exec_answer_in (is_newer process) process.creds (flags_at (table_of world process.namespace) own) found)) in

@@ -1,6 +1,7 @@
 -- No effect of a call that uses only what may be used leaves closed bounds.
 use Rattle.std.proofs.Common.{◌≡◌, ℕ, Bool, true, false, List, Option, Some, None, Result, Ok, Err, arith, refl, cond, sym, subst, eqb}
 use Rattle.std.specs.Prelude.{not, nat_lt, nat_le, ◌&&◌, ◌||◌, ◌+◌, length}
+use Rattle.std.proofs.lemmas.Bool.{and_from}
 use Rattle.kernel_model.specs.abs_path.Paths.{Path}
 use Rattle.filter_settings.specs.bpf_code.declared.machine.Insn.{Insn}
 use Rattle.filter_settings.specs.bpf_code.ProgramOf.{program_of}
@@ -15,6 +16,7 @@ use Rattle.kernel_model.specs.kern_creds.declared.file.FileCreds.{FileCreds}
 use Rattle.kernel_model.specs.kern_creds.Exec.{honours, is_refused, after_exec}
 use Rattle.kernel_model.specs.kern_creds.Prctl.{after_drop_bounding, after_raise, after_lower, after_clear_ambient, after_set_keepcaps}
 use Rattle.kernel_model.specs.kern_creds.Prctl.{after_set_no_new_privs, after_set_mdwe}
+use Rattle.kernel_model.specs.kern_creds.Ring.{after_set_up_ring}
 use Rattle.kernel_model.proofs.OfKernCreds.Answers.{Leaves}
 use Rattle.kernel_model.specs.kern_mounts.Finds.{Found, row, empty_directory, nothing, finds}
 use Rattle.kernel_model.specs.kern_files.Bits.{has_some, has_all}
@@ -31,6 +33,9 @@ use Rattle.kernel_model.specs.Effects.{looks, creds_effect, table_effect, with_c
 use Rattle.kernel_model.specs.Effects.{unshare_effect, ambient_effect, prctl_effect, push_effect, seccomp_effect, newuser, other_spaces}
 use Rattle.kernel_model.specs.Effects.{newns, socketcall_effect, protect_effect, attach_effect, set_mdwe_effect, prctl_effect_of}
 use Rattle.kernel_model.specs.Effects.{attributes_effect, schedule_answer, sockets_effect, socketpair_effect, no_pair}
+use Rattle.kernel_model.specs.Effects.{Host, set_up_effect, request_effect}
+use Rattle.kernel_model.specs.declared.kernel_calls.request.Request.{Request}
+use Rattle.kernel_model.specs.declared.kernel_calls.request.Request.TheVariants as ask
 use Rattle.kernel_model.specs.kern_files.Looking.{flags_at}
 use Rattle.kernel_model.specs.declared.kern_files.program.Program.{Program}
 use Rattle.kernel_model.specs.kern_files.Executing.{marks_of, program_answer, executed, exec_answer}
@@ -46,7 +51,7 @@ use Rattle.kernel_laws.specs.Ceiling.{CanHave, CanHold, IsClosed, IsSafe}
 use Rattle.kernel_laws.specs.Spared.{Uses}
 use Rattle.kernel_laws.proofs.MaskBits.{user_flag}
 use Rattle.kernel_laws.proofs.Kept.{kept-clear_ambient, kept-no_new_privs, kept-keepcaps, kept-lower, kept-drop_bounding, kept-raise}
-use Rattle.kernel_laws.proofs.Kept.{kept-capset, kept-mdwe}
+use Rattle.kernel_laws.proofs.Kept.{kept-capset, kept-mdwe, kept-ring}
 use Rattle.kernel_laws.proofs.KeptIds.{kept-setuid, kept-setresuid, kept-setgid, kept-setresgid, kept-setgroups}
 use Rattle.kernel_laws.proofs.KeptExec.{kept-exec, off}
 use Rattle.kernel_laws.proofs.Ran.{ran_program}
@@ -146,16 +151,16 @@ module _ (launch : Launch) (may_uids may_gids : Bool) (power : Power) (top : Bou
       (λ e. safe_if (nat_lt 40 cap') (Refuse 22) (Answer (cond (has creds.ambient cap') 1 0)) (λ e. tt) (λ e. tt)) λ e.
       safe_if (eqb op 2) (creds_effect (after_raise creds cap')) _ (λ e. safe_creds _ (kept-raise top creds held cap')) λ e.
       safe_if (eqb op 3) (creds_effect (after_lower creds cap')) _ (λ e. safe_creds _ (kept-lower top creds held cap')) λ e.
-      safe_if (eqb op 4) (SetCreds (after_clear_ambient creds)) (Refuse 22) (λ e. kept-clear_ambient top creds held) (λ e. tt)
+      safe_if (eqb op 4) (SetCreds 0 (after_clear_ambient creds)) (Refuse 22) (λ e. kept-clear_ambient top creds held) (λ e. tt)
 
   safe_prctl : (creds : Creds) (option value third : ℕ) → Keeps top creds → Safe (prctl_effect creds option value third)
   safe_prctl creds option value third held =
-      safe_if (eqb option 38) (cond (eqb value 1) (SetCreds (after_set_no_new_privs creds)) (Refuse 22)) _
-      (λ e. safe_if (eqb value 1) (SetCreds (after_set_no_new_privs creds)) (Refuse 22) (λ e. kept-no_new_privs top creds held) (λ e. tt))
+      safe_if (eqb option 38) (cond (eqb value 1) (SetCreds 0 (after_set_no_new_privs creds)) (Refuse 22)) _
+      (λ e. safe_if (eqb value 1) (SetCreds 0 (after_set_no_new_privs creds)) (Refuse 22) (λ e. kept-no_new_privs top creds held) (λ e. tt))
       λ e.
       safe_if (eqb option 39) (Answer (cond creds.no_new_privs 1 0)) _ (λ e. tt) λ e.
-      safe_if (eqb option 8) (cond (nat_lt value 2) (SetCreds (after_set_keepcaps creds (eqb value 1))) (Refuse 22)) _
-      (λ e. safe_if (nat_lt value 2) (SetCreds (after_set_keepcaps creds (eqb value 1))) (Refuse 22)
+      safe_if (eqb option 8) (cond (nat_lt value 2) (SetCreds 0 (after_set_keepcaps creds (eqb value 1))) (Refuse 22)) _
+      (λ e. safe_if (nat_lt value 2) (SetCreds 0 (after_set_keepcaps creds (eqb value 1))) (Refuse 22)
       (λ e. kept-keepcaps top creds held (eqb value 1)) (λ e. tt)) λ e.
       safe_if (eqb option 24) (creds_effect (after_drop_bounding creds value)) _
       (λ e. safe_creds _ (kept-drop_bounding top creds held value)) λ e.
@@ -164,7 +169,7 @@ module _ (launch : Launch) (may_uids may_gids : Bool) (power : Power) (top : Bou
   safe_set_mdwe : (creds : Creds) (value : ℕ) (alone : Bool) → Keeps top creds → Safe (set_mdwe_effect creds value alone)
   safe_set_mdwe creds value alone held =
       safe_if (not alone) (Refuse 22) _ (λ e. tt) λ e.
-      safe_if (eqb value 1) (SetCreds (after_set_mdwe creds)) _ (λ e. kept-mdwe top creds held) λ e.
+      safe_if (eqb value 1) (SetCreds 0 (after_set_mdwe creds)) _ (λ e. kept-mdwe top creds held) λ e.
       safe_if (eqb value 0) (cond creds.mdwe (Refuse 1) (Answer 0)) (Refuse 22)
       (λ e. safe_if creds.mdwe (Refuse 1) (Answer 0) (λ e. tt) (λ e. tt)) (λ e. tt)
 
@@ -182,6 +187,17 @@ module _ (launch : Launch) (may_uids may_gids : Bool) (power : Power) (top : Bou
   safe_attach : (creds : Creds) (flags : ℕ) → Safe (attach_effect creds flags)
   safe_attach creds flags = safe_if ((has_all 0x8000 flags && not (has_all 0x1000 flags)) && creds.mdwe) (Refuse 13) (Answer 0) (λ e. tt)
       (λ e. tt)
+
+  safe_set_up : (rings : Bool) (creds : Creds) → Keeps top creds → (rings ≡ true → top.ring ≡ true) → Safe (set_up_effect rings creds)
+  safe_set_up rings creds held on = safe_if rings (SetCreds 3 (after_set_up_ring creds)) (Refuse 1) (λ e. kept-ring top creds held (on e))
+      (λ e. tt)
+
+  safe_request : (host : Host) (creds : Creds) (stack : List (List Insn)) (table : Mounts) (request : Request)
+      → Safe (request_effect host (record { creds = creds; stack = stack; table = table; newer = false; owns = true }) request)
+  safe_request host creds stack table (ask.Stat path) = safe_looks _
+  safe_request host creds stack table (ask.Open path flags) = safe_looks _
+  safe_request host creds stack table (ask.Socket family) = safe_socket creds _
+  safe_request host creds stack table (ask.Mode mode) = tt
 
   safe_push : (stack : List (List Insn)) (program : Option (List Insn)) → Safe (push_effect stack program)
   safe_push stack None = tt
@@ -234,10 +250,10 @@ module _ (launch : Launch) (may_uids may_gids : Bool) (power : Power) (top : Bou
 
   pub safe_effect : (families : List CallLine) (mdwe : Bool) (creds : Creds) (stack : List (List Insn)) (table : Mounts) (operation : Operation)
       → Keeps top creds → CanHold power launch.table table → Through operation → Uses may_uids may_gids creds operation
-      → Safe (effect_of (record { rows = row_at launch.site.rows; families = families; mdwe = mdwe }) (first_caller creds stack table) operation)
+      → Safe (effect_of (record { rows = row_at launch.site.rows; families = families; mdwe = mdwe; rings = launch.site.io_uring }) (first_caller creds stack table) operation)
   safe_effect families mdwe creds stack table (d.See path) held allowed p u = safe_looks _
   safe_effect families mdwe creds stack table (d.Open flags mode path) held allowed p u = safe_looks _
-  safe_effect families mdwe creds stack table (d.Create path) held allowed p u = safe_looks _
+  safe_effect families mdwe creds stack table (d.Create mode path) held allowed p u = safe_looks _
   safe_effect families mdwe creds stack table (d.Truncate path) held allowed p u = safe_looks _
   safe_effect families mdwe creds stack table (d.Execve path) held allowed p u =
       safe_exec creds (steps_of table) path held allowed.entries _ refl
@@ -278,4 +294,10 @@ module _ (launch : Launch) (may_uids may_gids : Bool) (power : Power) (top : Bou
   safe_effect families mdwe creds stack table (d.Prctl option value third fourth fifth) held allowed p u =
       safe_prctl_of mdwe creds option value third fourth fifth held
   safe_effect families mdwe creds stack table (d.Seccomp op flags bytes) held allowed p u = safe_seccomp creds stack op flags bytes
+  safe_effect families mdwe creds stack table d.SetUpRing held allowed p u =
+      safe_set_up launch.site.io_uring creds held (λ on. closed.ring (and_from _ _ on (p k.SetsUpRing refl)))
+  safe_effect families mdwe creds stack table (d.Submit request) held allowed p u =
+      let host : Host = record { rows = row_at launch.site.rows; families = families; mdwe = mdwe; rings = launch.site.io_uring } in
+      safe_if creds.ring (request_effect host (first_caller creds stack table) request) (Refuse 9)
+      (λ e. safe_request host creds stack table request) (λ e. tt)
   safe_effect families mdwe creds stack table (d.Plain cap') held allowed p u = safe_cap_of cap' creds 0

@@ -33,8 +33,10 @@ use Rattle.kernel_model.specs.declared.kernel_calls.rule.Rule.{Rule}
 use Rattle.kernel_model.specs.kernel_calls.Rules.{rule_of, rule_by}
 use Rattle.kernel_model.specs.kernel_calls.Operation as d
 use Rattle.kernel_model.specs.kernel_calls.Operation.{Operation, Does, asked_of, bare, operation_by}
+use Rattle.kernel_model.specs.declared.kernel_calls.request.Request.{Request}
+use Rattle.kernel_model.specs.declared.kernel_calls.request.Request.TheVariants as ask
 use Rattle.kernel_model.specs.Effects as f
-use Rattle.kernel_model.specs.Effects.{Effect, Host, Caller, effect_of, attributes_effect, no_pair, socket_effect, sockets_effect}
+use Rattle.kernel_model.specs.Effects.{Effect, effect_of, attributes_effect, no_pair, socket_effect, sockets_effect}
 use Rattle.kernel_model.specs.kern_files.Looking.{flags_at}
 use Rattle.kernel_model.specs.kern_files.Executing.{marks_of}
 use Rattle.kernel_model.specs.World.{World, mounts_of, table_of, host_of, caller_of, is_newer}
@@ -50,14 +52,14 @@ use Rattle.kernel_laws.specs.declared.question_types.question.Question.TheVarian
 use Rattle.filter_settings.specs.linux_numbers.declared.namespaces.NamespaceType.TheVariants as namespace
 use Rattle.kernel_laws.specs.declared.question_types.kind.CallKind.TheVariants as k
 use Rattle.kernel_laws.specs.Questions.{is_plain, IsAsked}
-use Rattle.kernel_laws.specs.Denied.{path_for, ReachesRow, ReachesCall, Performs, Reaches, Holds, IsDenied, is_family, asks_family}
+use Rattle.kernel_laws.specs.Denied.{path_for, requested_path, ReachesRow, ReachesCall, Performs, Reaches, Holds, IsDenied, is_family, asks_family}
 use Rattle.kernel_laws.specs.Denied.{asks_space, asks_map, asks_protect, asks_attach, asks_realtime, is_realtime, asks_personality, asks_mode}
-use Rattle.kernel_laws.specs.Reach.{Leads, fits, reaches, runs_unmarked}
+use Rattle.kernel_laws.specs.Reach.{Leads, fits, mount_wish, reaches, runs_unmarked}
 use Rattle.kernel_laws.specs.Kinds.{asks, asks_number}
-use Rattle.kernel_laws.specs.Launched.{Launch, data_at, lets, lets_line, can_make_user, IsLaunched, launch_of}
+use Rattle.kernel_laws.specs.Launched.{Launch, data_at, lets, lets_line, can_make_user, can_submit, IsLaunched, launch_of}
 use Rattle.kernel_laws.specs.Ceiling.{IsHeld, IsStable, TableIn}
 use Rattle.kernel_laws.specs.Bound.{power_of, ceiling, is_open, can_reach, is_to_exec, is_user, is_barred, can_have_cap, runs_plainly}
-use Rattle.kernel_laws.specs.Bound.{can_have_for, if_listed, is_call_open}
+use Rattle.kernel_laws.specs.Bound.{can_have_for, if_listed, is_call_open, can_ask, can_make_socket}
 use Rattle.kernel_laws.specs.NewerTables.{CanHaveNewer}
 use Rattle.kernel_laws.proofs.NewerTables.{tables_stable, rows_are_reached}
 use Rattle.kernel_model.specs.kern_mounts.Mounts.{Mounts, steps_of}
@@ -73,7 +75,7 @@ use Rattle.kernel_laws.proofs.Held.{AllHeld, launched_held, ceiling_step, ceilin
 use Rattle.kernel_laws.proofs.KeptExec.{off}
 use Rattle.kernel_laws.proofs.Newer.{ids_of}
 use Rattle.kernel_laws.proofs.Sound.{DoneBy, MadeSpace, wish_fits, run_taken, space_done, cap_done}
-use Rattle.kernel_laws.proofs.Sound.{map_done, attach_done}
+use Rattle.kernel_laws.proofs.Sound.{map_done, attach_done, ring_done}
 
 module _ (launch : Launch) (l : IsLaunched launch) (below : Mounts → Type 0) (stable : IsStable launch (power_of launch) below) where
   abbrev power : Power
@@ -105,6 +107,15 @@ module _ (launch : Launch) (l : IsLaunched launch) (below : Mounts → Type 0) (
       let w = was_done now call p.done in
       let same = same_operation now call p.operation w.operation p.is w.asks in
       kind_lets now call fit held w kind (h w.operation (ap such (sym same) ∙ p.such))
+
+  -- a request to a ring that is done shows that rings can be set up, and that requests pass
+  submits : (now : World) (call : Call) → IsCall call → All now → (w : WasDone now call) → (request : Request) → w.operation ≡ d.Submit request
+      → can_submit launch ≡ true
+  submits now call fit held w request is =
+      let P : Operation → Type 0 = λ own. DoneBy now call.pid w.process (effect_of (host_of now) (caller_of now w.process) own) in
+      let on = (ring_done now call.pid w.process request (subst P is w.done)).0 in
+      and_from _ _ ((ids_of (is_newer w.process) top w.process.creds (held_of now call held w).creds).ring on)
+      (kind_lets now call fit held w k.Submits (ap (asks k.Submits) is))
 
   -- the bounds of a process of the first user namespace
   kept_first : (now : World) (call : Call) → All now → (w : WasDone now call) → is_newer w.process ≡ false → Keeps top w.process.creds
@@ -176,6 +187,21 @@ module _ (launch : Launch) (l : IsLaunched launch) (below : Mounts → Type 0) (
   only_exec ToWrite e = cc
   only_exec ToExec e = refl
 
+  -- what names a path by a request executes nothing
+  no_exec : (wish : Wish) (request : Request) (path : Path) → requested_path wish request ≡ Some path → not (is_to_exec wish) ≡ true
+  no_exec ToSee request path e = refl
+  no_exec ToRead request path e = refl
+  no_exec ToWrite request path e = refl
+  no_exec ToExec request path e = cc
+
+  -- the call for the wish passes, or a request for it can be submitted
+  asked_for : (now : World) (call : Call) → IsCall call → All now → (w : WasDone now call) → (wish : Wish) (path : Path) (operation : Operation)
+      → w.operation ≡ operation → path_for wish operation ≡ Some path → can_ask launch wish ≡ true
+  asked_for now call fit held w wish path (d.Submit request) is e =
+      or_right (lets launch (k.ForPath wish)) _ (and_from _ _ (no_exec wish request path e) (submits now call fit held w request is))
+  asked_for now call fit held w wish path operation is e =
+      or_left _ _ (kind_lets now call fit held w (k.ForPath wish) (ap (asks (k.ForPath wish)) is ∙ ap is_some e))
+
   row_open : LeadsToReached → (wish : Wish) (place : ℕ) (now : World) (call : Call) → IsCall call → All now
       → ReachesRow wish place (moment_at now call) → is_open launch (asking.Path wish place) ≡ true
   row_open less wish place now call fit held r =
@@ -187,14 +213,14 @@ module _ (launch : Launch) (l : IsLaunched launch) (below : Mounts → Type 0) (
       let found : finds (row_at now.site.rows) table r.path ≡ row r.target = ap (λ (p : Process). finds (row_at now.site.rows) (table_of now p.namespace) r.path) (sym one) ∙ r.found in
       let seen : finds (row_at launch.site.rows) table r.path ≡ row r.target = ap (λ (s : Site). finds (row_at s.rows) table r.path) (sym held.site) ∙ found in
       let listed : slice_get launch.site.rows place ≡ Some r.target = ap (λ (s : Site). slice_get s.rows place) (sym held.site) ∙ r.listed in
-      let passes = kind_lets now call fit held w (k.ForPath wish) (ap is_some wanted) in
+      let passes = asked_for now call fit held w wish r.path w.operation refl wanted in
       let fit' = wish_fits now call.pid w.process wish w.operation r.path r.target wanted found w.done in
-      let lead = leads launch.site.rows table r.path r.target (fits wish) seen fit' in
+      let lead = leads launch.site.rows table r.path r.target (fits (mount_wish r.target.kind wish)) seen fit' in
       let h = held_of now call held w in
-      let there = reaches_in less (eqb h.space.owner 1) (mounts_of now w.process.namespace) r.target.path wish (own_allowed launch power top below now w.process h) lead in
+      let there = reaches_in less (eqb h.space.owner 1) (mounts_of now w.process.namespace) r.target.path (mount_wish r.target.kind wish) (own_allowed launch power top below now w.process h) lead in
       let open' = free (is_to_exec wish) (is_barred launch r.target) (runs_plainly launch power r.target) (can_make_user launch) (λ exec elsewhere off.
       let is_exec = only_exec wish exec in
-      let runs : fits ToExec (flags_at table r.path) ≡ true = ap (λ (v : Wish). fits v (flags_at table r.path)) (sym is_exec) ∙ fit' in
+      let runs : fits ToExec (flags_at table r.path) ≡ true = ap (λ (v : Wish). fits (mount_wish r.target.kind v) (flags_at table r.path)) (sym is_exec) ∙ fit' in
       let wanted' : path_for ToExec w.operation ≡ Some r.path = ap (λ (v : Wish). path_for v w.operation) (sym is_exec) ∙ wanted in
       not_barred now call held w (first_if now call held w off) r.path r.target seen runs (run_taken now call.pid w.process w.operation r.path r.target wanted' found w.done) elsewhere) in
       ap (if_listed (can_reach launch power wish)) listed ∙ and_from _ _ (and_from _ _ passes there) open'
@@ -270,60 +296,61 @@ module _ (launch : Launch) (l : IsLaunched launch) (below : Mounts → Type 0) (
       by_cap w r plain e = cc
 
   -- ---- sockets
-  -- a call for the family of a place makes sockets of that family
-  record ForFamilyAt (families : List CallLine) (place : ℕ) (operation : Operation) : Type 0 where
-    pub family : ℕ
-    pub line : CallLine
-    pub listed : slice_get families place ≡ Some line
-    pub same : family ≡ line.number
-    pub asks_it : asks_number family operation ≡ true
-    pub value : ℕ
-    pub comes_to : (host : Host) (caller : Caller) → effect_of host caller operation
-        ≡ sockets_effect value caller.newer caller.creds (numbered family host.families)
-
-  family_listed : (families : List CallLine) (place family : ℕ) (operation : Operation) → is_family (slice_get families place) family ≡ true
-      → asks_number family operation ≡ true → (value : ℕ)
-      → ((host : Host) (caller : Caller) → effect_of host caller operation
-      ≡ sockets_effect value caller.newer caller.creds (numbered family host.families)) → ForFamilyAt families place operation
-  family_listed families place family operation e asks_it value comes_to = by (slice_get families place) refl e
+  -- a socket of the family of a place is made, by a call that passes or by a request, with this value
+  family_made : (place : ℕ) (now : World) (call : Call) → All now → (w : WasDone now call) → (family value : ℕ)
+      → is_family (slice_get now.calls.families place) family ≡ true → can_make_socket launch family ≡ true
+      → DoneBy now call.pid w.process (sockets_effect value (is_newer w.process) w.process.creds (numbered family now.calls.families))
+      → is_open launch (asking.Socket place) ≡ true
+  family_made place now call held w family value e can done = by (slice_get now.calls.families place) refl e
     where
-      by : (o : Option CallLine) → slice_get families place ≡ o → is_family o family ≡ true → ForFamilyAt families place operation
+      by : (o : Option CallLine) → slice_get now.calls.families place ≡ o → is_family o family ≡ true
+          → is_open launch (asking.Socket place) ≡ true
       by None is e = cc
-      by (Some line) is e = record
-          { family = family; line = line; listed = is; same = eqb-true family line.number e; asks_it = asks_it; value = value; comes_to = comes_to }
+      by (Some line) is e =
+          let same : family ≡ line.number = eqb-true family line.number e in
+          let listed : slice_get launch.calls.families place ≡ Some line = ap (λ (c : calls.Table). slice_get c.families place) (sym held.calls) ∙ is in
+          let found = at_position launch.calls.families line.number place line (l.families_once place line listed) listed in
+          let here : numbered family now.calls.families ≡ Some line = ap (λ (c : calls.Table). numbered family c.families) held.calls ∙ ap (λ n. numbered n launch.calls.families) same ∙ found in
+          let P : Option CallLine → Type 0 = λ o. DoneBy now call.pid w.process (sockets_effect value (is_newer w.process) w.process.creds o) in
+          ap (if_listed (λ line. can_make_socket launch line.number && can_have_cap top line.cap)) listed
+          ∙ and_from _ _ (ap (can_make_socket launch) (sym same) ∙ can) (can_cap now call held w line.cap value (subst P here done))
 
-  family_is : (families : List CallLine) (place : ℕ) (operation : Operation) → asks_family families place operation ≡ true
-      → ForFamilyAt families place operation
-  family_is families place (d.Socket family) e = family_listed families place family (d.Socket family) e (eq-eqb family family refl) 3
-      (λ host caller. refl)
-  family_is families place (d.Socketcall op family) e =
-      let both = and_parts (eqb op 1) (is_family (slice_get families place) family) e in
-      family_listed families place family (d.Socketcall op family) both.1 (and_from _ _ both.0 (eq-eqb family family refl)) 3
-      (λ host caller. ap (λ b. cond b (socket_effect caller.newer caller.creds (numbered family host.families))
-      (cond (nat_le 2 op && nat_le op 20) (f.Answer 0) (f.Refuse einval))) both.0)
-  family_is families place (d.Socketpair family) e =
-      let both = and_parts (eqb family 1) (is_family (slice_get families place) family) e in
-      family_listed families place family (d.Socketpair family) both.1 (and_from _ _ both.0 (eq-eqb family family refl)) 0
-      (λ host caller. ap (λ b. cond b (sockets_effect 0 caller.newer caller.creds (numbered family host.families))
-      (no_pair (numbered family host.families))) both.0)
-  family_is families place operation e = cc
+  -- the call for the family passes
+  family_lets : (now : World) (call : Call) → IsCall call → All now → (w : WasDone now call) → (family : ℕ)
+      → asks_number family w.operation ≡ true → can_make_socket launch family ≡ true
+  family_lets now call fit held w family asked = or_left _ _ (kind_lets now call fit held w (k.ForFamily family) asked)
+
+  family_open : (place : ℕ) (now : World) (call : Call) → IsCall call → All now → (w : WasDone now call) → (operation : Operation)
+      → w.operation ≡ operation → asks_family now.calls.families place operation ≡ true
+      → DoneBy now call.pid w.process (effect_of (host_of now) (caller_of now w.process) operation)
+      → is_open launch (asking.Socket place) ≡ true
+  family_open place now call fit held w (d.Socket family) is e done =
+      family_made place now call held w family 3 e
+      (family_lets now call fit held w family (ap (asks_number family) is ∙ eq-eqb family family refl)) done
+  family_open place now call fit held w (d.Socketcall op family) is e done =
+      let both = and_parts (eqb op 1) (is_family (slice_get now.calls.families place) family) e in
+      let P : Bool → Type 0 = λ b. DoneBy now call.pid w.process (cond b (socket_effect (is_newer w.process) w.process.creds (numbered family now.calls.families)) (cond (nat_le 2 op && nat_le op 20) (f.Answer 0) (f.Refuse einval))) in
+      family_made place now call held w family 3 both.1
+      (family_lets now call fit held w family (ap (asks_number family) is ∙ and_from _ _ both.0 (eq-eqb family family refl)))
+      (subst P both.0 done)
+  family_open place now call fit held w (d.Socketpair family) is e done =
+      let both = and_parts (eqb family 1) (is_family (slice_get now.calls.families place) family) e in
+      let P : Bool → Type 0 = λ b. DoneBy now call.pid w.process (cond b (sockets_effect 0 (is_newer w.process) w.process.creds (numbered family now.calls.families)) (no_pair (numbered family now.calls.families))) in
+      family_made place now call held w family 0 both.1
+      (family_lets now call fit held w family (ap (asks_number family) is ∙ and_from _ _ both.0 (eq-eqb family family refl)))
+      (subst P both.0 done)
+  family_open place now call fit held w (d.Submit (ask.Socket family)) is e done =
+      family_made place now call held w family 3 e
+      (or_right (lets launch (k.ForFamily family)) _ (submits now call fit held w (ask.Socket family) is))
+      (ring_done now call.pid w.process (ask.Socket family) done).1
+  family_open place now call fit held w operation is e done = cc
 
   socket_open : (place : ℕ) (now : World) (call : Call) → IsCall call → All now
       → Performs (asks_family now.calls.families place) (moment_at now call) → is_open launch (asking.Socket place) ≡ true
   socket_open place now call fit held p =
       let w = was_done now call p.done in
       let same = same_operation now call p.operation w.operation p.is w.asks in
-      let h = family_is now.calls.families place w.operation (ap (asks_family now.calls.families place) (sym same) ∙ p.such) in
-      let line = h.line in
-      let listed : slice_get launch.calls.families place ≡ Some line = ap (λ (c : calls.Table). slice_get c.families place) (sym held.calls) ∙ h.listed in
-      let found = at_position launch.calls.families line.number place line (l.families_once place line listed) listed in
-      let here : numbered h.family now.calls.families ≡ Some line = ap (λ (c : calls.Table). numbered h.family c.families) held.calls ∙ ap (λ n. numbered n launch.calls.families) h.same ∙ found in
-      let asked : asks (k.ForFamily line.number) w.operation ≡ true = ap (λ n. asks_number n w.operation) (sym h.same) ∙ h.asks_it in
-      let passes = kind_lets now call fit held w (k.ForFamily line.number) asked in
-      let P : Effect → Type 0 = λ x. DoneBy now call.pid w.process x in
-      let done : DoneBy now call.pid w.process (sockets_effect h.value (is_newer w.process) w.process.creds (Some line)) = subst P (h.comes_to (host_of now) (caller_of now w.process) ∙ ap (sockets_effect h.value (is_newer w.process) w.process.creds) here) w.done in
-      ap (if_listed (λ line. lets launch (k.ForFamily line.number) && can_have_cap top line.cap)) listed
-      ∙ and_from _ _ passes (can_cap now call held w line.cap h.value done)
+      family_open place now call fit held w w.operation refl (ap (asks_family now.calls.families place) (sym same) ∙ p.such) w.done
 
   -- ---- realtime policies
   -- the effect of sched_setattr(2) with such a policy
@@ -363,10 +390,16 @@ module _ (launch : Launch) (l : IsLaunched launch) (below : Mounts → Type 0) (
       let same = same_operation now call p.operation w.operation p.is w.asks in
       by w w.operation refl (ap asks_mode (sym same) ∙ p.such)
     where
+      made : (w : WasDone now call) (own : Operation) → w.operation ≡ own → asks k.OpensMode own ≡ true → is_open launch asking.SuidBit ≡ true
+      made w own is e =
+          or_left _ _ (or_right (lets launch k.SetsMode) _ (kind_lets now call fit held w k.OpensMode (ap (asks k.OpensMode) is ∙ e)))
+
       by : (w : WasDone now call) (own : Operation) → w.operation ≡ own → asks_mode own ≡ true → is_open launch asking.SuidBit ≡ true
-      by w (d.SetMode mode) is e = or_left _ _ (kind_lets now call fit held w k.SetsMode (ap (asks k.SetsMode) is ∙ e))
-      by w (d.Open flags mode path) is e =
-          or_right (lets launch k.SetsMode) _ (kind_lets now call fit held w k.OpensMode (ap (asks k.OpensMode) is ∙ e))
+      by w (d.SetMode mode) is e = or_left _ _ (or_left _ _ (kind_lets now call fit held w k.SetsMode (ap (asks k.SetsMode) is ∙ e)))
+      by w (d.Open flags mode path) is e = made w (d.Open flags mode path) is e
+      by w (d.Create mode path) is e = made w (d.Create mode path) is e
+      by w (d.Submit request) is e =
+          or_right (lets launch k.SetsMode || lets launch k.OpensMode) _ (submits now call fit held w request is)
       by w own is e = cc
 
   space_open : (space : NamespaceType) (now : World) (call : Call) → IsCall call → All now

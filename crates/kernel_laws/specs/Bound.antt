@@ -9,7 +9,7 @@ use Rattle.kernel_model.specs.site_table.declared.row.Row.{Row}
 use Rattle.filter_settings.specs.linux_numbers.Capabilities.{cap_sys_admin, cap_sys_nice, cap_setuid, cap_setgid}
 use Rattle.kernel_laws.specs.Bounds.{Bounds}
 use Rattle.kernel_model.specs.site_table.Kinds.{is_exe}
-use Rattle.kernel_laws.specs.Reach.{reaches, reaches_with, runs_marked, runs_unmarked}
+use Rattle.kernel_laws.specs.Reach.{reaches, reaches_with, mount_wish, runs_marked, runs_unmarked}
 use Rattle.kernel_model.specs.declared.kernel_calls.rule.Rule.{Rule}
 use Rattle.kernel_model.specs.declared.kernel_calls.rule.Rule.TheVariants.{Plain}
 use Rattle.kernel_model.specs.kernel_calls.Rules.{rule_of}
@@ -29,7 +29,7 @@ use Rattle.kernel_laws.specs.declared.question_types.question.Question.{Question
 use Rattle.kernel_laws.specs.declared.question_types.question.Question.TheVariants.{Path as ByPath, Call, Socket, Namespace as Ns, MapWx}
 use Rattle.kernel_laws.specs.declared.question_types.question.Question.TheVariants.{ProtectX, ShmX, Realtime, Personality, SuidBit, Cap}
 use Rattle.kernel_laws.specs.declared.question_types.question.Question.TheVariants.{Uid, Gid}
-use Rattle.kernel_laws.specs.Launched.{Launch, lets, lets_line, can_make_user}
+use Rattle.kernel_laws.specs.Launched.{Launch, lets, lets_line, can_make_user, can_submit, makes_ring}
 
 -- the union over the rows
 abbrev pub gathered : (Row → ℕ) → List Row → ℕ
@@ -126,6 +126,7 @@ abbrev pub bounds_by : Launch → Bool → Bool → Power → Bounds
 bounds_by launch uids gids power = record {
   no_new_privs = launch.creds.no_new_privs;
   mdwe = launch.creds.mdwe;
+  ring = makes_ring launch;
   bounding = launch.creds.bounding;
   inheritable = if lets launch SetsCaps then launch.creds.bounding else launch.creds.inheritable;
   effective = caps_by launch uids power;
@@ -170,11 +171,15 @@ abbrev pub is_user : NamespaceType → Bool
 is_user User = true
 is_user _ = false
 
--- a row can be seen, read, written or run: a call for it passes, some table shows it, and execve does not refuse it. Execve refuses none
+-- a call for the wish passes, or a request for it can be submitted to a ring
+abbrev pub can_ask : Launch → Wish → Bool
+can_ask launch wish = lets launch (ForPath wish) || (not (is_to_exec wish) && can_submit launch)
+
+-- a row can be seen, read, written or run: it can be asked for, some table shows it, and execve does not refuse it. Execve refuses none
 -- by marks that it does not look at, and none in a newer user namespace, because the bounding set is full there
 abbrev pub can_reach : Launch → Power → Wish → Row → Bool
 can_reach launch power wish row =
-    (lets launch (ForPath wish) && reaches power launch.table row.path wish)
+    (can_ask launch wish && reaches power launch.table row.path (mount_wish row.kind wish))
     && not (((is_to_exec wish && is_barred launch row) && not (runs_plainly launch power row)) && not (can_make_user launch))
 
 -- the test holds of the listed thing, if there is one
@@ -187,6 +192,10 @@ abbrev pub is_call_open : Launch → Bounds → CallLine → Bool
 is_call_open launch top line = list_any (λ other. bytes_eq line.name other.name && lets_line launch PlainCall other)
     (every_call launch.calls) && can_have_for top (rule_of line)
 
+-- a call that makes a socket of the family passes, or a request for one can be submitted to a ring
+abbrev pub can_make_socket : Launch → ℕ → Bool
+can_make_socket launch family = lets launch (ForFamily family) || can_submit launch
+
 -- shmat(2) of memory to be executed: once PR_SET_MDWE of prctl(2) refuses memory to be both written and executed, it is not to be written
 abbrev pub attaching : Launch → CallKind
 attaching launch = if launch.creds.mdwe then AttachesReadOnlyX else AttachesX
@@ -195,7 +204,7 @@ attaching launch = if launch.creds.mdwe then AttachesReadOnlyX else AttachesX
 abbrev pub open_at : Launch → Power → Bounds → Question → Bool
 open_at launch power top (ByPath wish place) = if_listed (can_reach launch power wish) (slice_get launch.site.rows place)
 open_at launch power top (Call place) = if_listed (is_call_open launch top) (slice_get (every_call launch.calls) place)
-open_at launch power top (Socket place) = if_listed (λ line. lets launch (ForFamily line.number) && can_have_cap top line.cap)
+open_at launch power top (Socket place) = if_listed (λ line. can_make_socket launch line.number && can_have_cap top line.cap)
     (slice_get launch.calls.families place)
 open_at launch power top (Ns space) =
     if is_user space then can_make_user launch else lets launch (ForNamespace space) &&
@@ -205,7 +214,7 @@ open_at launch power top ProtectX = lets launch ProtectsX
 open_at launch power top ShmX = lets launch (attaching launch)
 open_at launch power top Realtime = lets launch SchedulesRealtime || (lets launch SetsRealtime && can_have_cap top (Some cap_sys_nice))
 open_at launch power top Personality = lets launch TakesPersonality
-open_at launch power top SuidBit = lets launch SetsMode || lets launch OpensMode
+open_at launch power top SuidBit = (lets launch SetsMode || lets launch OpensMode) || can_submit launch
 open_at launch power top (Cap number) = has top.effective number
 open_at launch power top (Uid id) = top.uid id
 open_at launch power top (Gid id) = top.gid id

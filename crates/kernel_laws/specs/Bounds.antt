@@ -7,10 +7,11 @@ use Rattle.kernel_model.specs.kern_creds.declared.creds.Creds.{Creds}
 use Rattle.kernel_model.specs.kern_creds.declared.file.FileCreds.{FileCreds}
 
 -- the most capabilities of each set, capabilities(7); the uids and gids that a process can get, credentials(7); and whether
--- no_new_privs is set for good, and the mark of PR_SET_MDWE, prctl(2)
+-- no_new_privs is set for good, and the mark of PR_SET_MDWE, prctl(2); and whether a process can have a ring, io_uring_setup(2)
 pub record Bounds : Type 0 where
   pub no_new_privs : Bool
   pub mdwe : Bool
+  pub ring : Bool
   pub bounding : ℕ
   pub inheritable : ℕ
   pub permitted : ℕ
@@ -28,6 +29,7 @@ pub record IsIdsWithin (ids : Ids) (ok : ℕ → Bool) : Type 0 where
 pub record Keeps (top : Bounds) (creds : Creds) : Type 0 where
   pub no_new_privs : top.no_new_privs ≡ true → creds.no_new_privs ≡ true
   pub mdwe : top.mdwe ≡ true → creds.mdwe ≡ true
+  pub ring : creds.ring ≡ true → top.ring ≡ true
   pub bounding : IsWithin creds.bounding top.bounding
   pub inheritable : IsWithin creds.inheritable top.inheritable
   pub permitted : IsWithin creds.permitted top.permitted
@@ -44,6 +46,7 @@ pub record Keeps (top : Bounds) (creds : Creds) : Type 0 where
 pub record KeepsIds (top : Bounds) (creds : Creds) : Type 0 where
   pub no_new_privs : top.no_new_privs ≡ true → creds.no_new_privs ≡ true
   pub mdwe : top.mdwe ≡ true → creds.mdwe ≡ true
+  pub ring : creds.ring ≡ true → top.ring ≡ true
   pub uids : IsIdsWithin creds.uids top.uid
   pub gids : IsIdsWithin creds.gids top.gid
   pub groups : AllByRecursion (λ id. top.gid id ≡ true) creds.groups

@@ -26,7 +26,7 @@ use Rattle.kernel_model.specs.kern_mounts.Copying.{locked_copy}
 use Rattle.kernel_model.specs.World.{World, is_newer}
 use Rattle.kernel_model.specs.declared.mount_namespace.MountNamespace.{MountNamespace}
 use Rattle.kernel_model.specs.declared.process.Process.{Process}
-use Rattle.kernel_laws.specs.Launched.{Launch, lets, can_make_user}
+use Rattle.kernel_laws.specs.Launched.{Launch, lets, can_make_user, makes_ring}
 
 -- the tables that a process can have at a power
 abbrev pub CanHave : Power → Table → Table → Type 0
@@ -59,6 +59,7 @@ pub record IsClosed (launch : Launch) (uids gids : Bool) (power : Power) (top : 
   pub capset_inheritable : lets launch SetsCaps ≡ true → IsWithin top.bounding top.inheritable
   pub any_uid : uids ≡ true → has top.effective cap_setuid ≡ true → (id : ℕ) → top.uid id ≡ true
   pub any_gid : gids ≡ true → has top.effective cap_setgid ≡ true → (id : ℕ) → top.gid id ≡ true
+  pub ring : makes_ring launch ≡ true → top.ring ≡ true
   pub mount : lets launch ChangesMounts ≡ true → has top.effective cap_sys_admin ≡ true → power ≡ Mounting
   pub umount : lets launch RemovesMounts ≡ true → has top.effective cap_sys_admin ≡ true → (power ≡ Nowise) → ⊥
 
@@ -101,7 +102,7 @@ pub record AreHeld (launch : Launch) (power : Power) (top : Bounds) (below : Mou
 -- an effect that keeps within the bounds, by whether the process is in a newer user namespace and whether its mount namespace belongs to
 -- the first one
 abbrev pub IsSafe : Launch → Power → Bounds → (Mounts → Type 0) → Bool → Bool → Effect → Type 0
-IsSafe launch power top below newer ours (SetCreds creds) = KeepsIn newer top creds
+IsSafe launch power top below newer ours (SetCreds value creds) = KeepsIn newer top creds
 IsSafe launch power top below newer ours (SetTable table) = TableIn ours launch power below table
 IsSafe launch power top below newer ours (UserChild own) = lets launch (ForNamespace User) ≡ true
 IsSafe launch power top below newer ours (OwnUser own) = lets launch (ForNamespace User) ≡ true

@@ -8,6 +8,8 @@ use Rattle.filter_settings.specs.call_table.declared.call_names.rule.CallRule.Th
 use Rattle.kernel_model.specs.abs_path.Paths.{Path}
 use Rattle.kernel_model.specs.declared.kernel_calls.payload.Payload.{Payload}
 use Rattle.kernel_model.specs.declared.kernel_calls.payload.Payload.TheVariants.{Number, Nothing, OnePath, PathFlags}
+use Rattle.kernel_model.specs.declared.kernel_calls.request.Request.{Request}
+use Rattle.kernel_model.specs.declared.kernel_calls.request.Request.TheVariants.{Stat, Open as AskOpen, Socket as AskSocket, Mode}
 use Rattle.kernel_model.specs.declared.kernel_calls.rule.Rule.{Rule}
 use Rattle.kernel_model.specs.declared.kernel_calls.rule.Rule.TheVariants as rule
 use Rattle.kernel_model.specs.Effects.{af_unix}
@@ -21,10 +23,10 @@ use Rattle.kernel_laws.specs.declared.question_types.kind.CallKind.TheVariants.{
 use Rattle.kernel_laws.specs.declared.question_types.kind.CallKind.TheVariants.{ProtectsX, AttachesX, AttachesReadOnlyX, SchedulesRealtime, SetsRealtime}
 use Rattle.kernel_laws.specs.declared.question_types.kind.CallKind.TheVariants.{TakesPersonality}
 use Rattle.kernel_laws.specs.declared.question_types.kind.CallKind.TheVariants.{SetsMode, OpensMode, ChangesMounts, RemovesMounts, SetsCaps, TakesUid}
-use Rattle.kernel_laws.specs.declared.question_types.kind.CallKind.TheVariants.{TakesGid}
+use Rattle.kernel_laws.specs.declared.question_types.kind.CallKind.TheVariants.{TakesGid, SetsUpRing, Submits}
 use Rattle.filter_settings.specs.linux_numbers.declared.namespaces.NamespaceType.{NamespaceType}
 use Rattle.filter_settings.specs.linux_numbers.Namespaces.{flag_of}
-use Rattle.kernel_laws.specs.Denied.{path_for, asks_space, asks_map, asks_protect, asks_attach, is_realtime, asks_personality, has_id_bit}
+use Rattle.kernel_laws.specs.Denied.{called_path, asks_space, asks_map, asks_protect, asks_attach, is_realtime, asks_personality, has_id_bit}
 use Rattle.kernel_laws.specs.Denied.{makes_file}
 
 abbrev pub asks_plain : Operation → Bool
@@ -36,9 +38,10 @@ abbrev pub asks_set_mode : Operation → Bool
 asks_set_mode (operation.SetMode mode) = has_id_bit mode
 asks_set_mode _ = false
 
--- open(2) and openat(2) of a file that they make
+-- open(2), openat(2) and creat(2) of a file that they make
 abbrev pub asks_made_mode : Operation → Bool
 asks_made_mode (operation.Open flags mode path) = has_id_bit mode && makes_file flags
+asks_made_mode (operation.Create mode path) = has_id_bit mode
 asks_made_mode _ = false
 
 -- sched_setscheduler(2), which needs no capability
@@ -85,9 +88,17 @@ asks_gid (operation.Setresgid real effective saved) = true
 asks_gid (operation.Setgroups ids) = true
 asks_gid _ = false
 
--- the call asks for this kind of thing
+abbrev pub asks_ring : Operation → Bool
+asks_ring operation.SetUpRing = true
+asks_ring _ = false
+
+abbrev pub asks_request : Operation → Bool
+asks_request (operation.Submit request) = true
+asks_request _ = false
+
+-- the call asks for this kind of thing; what a request to a ring does is asked by itself
 abbrev pub asks : CallKind → Operation → Bool
-asks (ForPath wish) operation = is_some (path_for wish operation)
+asks (ForPath wish) operation = is_some (called_path wish operation)
 asks PlainCall operation = asks_plain operation
 asks (ForFamily family) operation = asks_number family operation
 asks (ForNamespace space) operation = asks_space space operation
@@ -105,6 +116,8 @@ asks RemovesMounts operation = asks_umount operation
 asks SetsCaps operation = asks_caps operation
 asks TakesUid operation = asks_uid operation
 asks TakesGid operation = asks_gid operation
+asks SetsUpRing operation = asks_ring operation
+asks Submits operation = asks_request operation
 
 -- six words 0, syscall(2)
 abbrev pub no_words : List ℕ
@@ -130,6 +143,7 @@ words (ForPath ToWrite) (rule.Known (known.OpenWith flags)) = Some (one_word (pl
 words (ForPath ToRead) (rule.Known known.Openat2) = Some no_words
 words (ForPath ToWrite) (rule.Known known.Openat2) = Some no_words
 words (ForPath ToWrite) (rule.Known known.Create) = Some no_words
+words (ForPath ToWrite) (rule.Known known.CreateWith) = Some no_words
 words (ForPath ToWrite) (rule.Known known.Truncate) = Some no_words
 words (ForPath ToExec) (rule.Known known.Execve) = Some no_words
 words PlainCall (rule.Plain cap) = Some no_words
@@ -148,6 +162,7 @@ words SetsRealtime (rule.Known known.SetAttributes) = Some no_words
 words TakesPersonality (rule.Known known.Personality) = Some (one_word 0 8)
 words SetsMode (rule.Known (known.SetMode mode)) = Some (one_word (place_of mode) 0x800)
 words OpensMode (rule.Known (known.OpenWith flags)) = Some (made_words flags)
+words OpensMode (rule.Known known.CreateWith) = Some (one_word 1 0x800)
 words ChangesMounts (rule.Known known.Mount) = Some no_words
 words RemovesMounts (rule.Known known.Umount) = Some no_words
 words SetsCaps (rule.Known known.Capset) = Some no_words
@@ -158,6 +173,8 @@ words TakesGid (rule.Known known.Setgid) = Some no_words
 words TakesGid (rule.Known known.Setresgid) = Some no_words
 words TakesGid (rule.Known known.Setregid) = Some no_words
 words TakesGid (rule.Known known.Setgroups) = Some no_words
+words SetsUpRing (rule.Known known.SetUpRing) = Some no_words
+words Submits (rule.Known known.Submit) = Some no_words
 words _ _ = None
 
 -- words that ask for the same with a high bit set, which the kernel does not look at: the family of socket(2) is the low 32 bits of its
@@ -172,6 +189,17 @@ abbrev pub path_payload : Wish → Rule → Path → Payload
 path_payload ToRead (rule.Known known.Openat2) path = PathFlags path 0
 path_payload ToWrite (rule.Known known.Openat2) path = PathFlags path 1
 path_payload wish rule path = OnePath path
+
+-- the request to a ring for a wish: one like statx(2), or one like openat(2) with O_RDONLY or O_WRONLY. No request executes a file
+abbrev pub wish_request : Wish → Path → Request
+wish_request ToSee path = Stat path
+wish_request ToRead path = AskOpen path 0
+wish_request ToWrite path = AskOpen path 1
+wish_request ToExec path = Stat path
+
+-- the request for a set-id bit: one like mkdirat(2), with S_ISUID of inode(7)
+abbrev pub mode_request : Request
+mode_request = Mode 0x800
 
 -- what the first call for a type of namespace carries: its flag, where the call is clone3(2), which has no word for it
 abbrev pub space_payload : Rule → NamespaceType → Payload

@@ -32,7 +32,7 @@ use Rattle.kernel_model.specs.declared.process.Process.{Process}
 use Rattle.kernel_model.specs.World.{World, of_number, process_of, namespace_of, mounts_of, table_of, owner_of}
 use Rattle.kernel_laws.specs.Kinds.{asks, words, wide_words, AreWords}
 use Rattle.kernel_laws.specs.declared.question_types.kind.CallKind.{CallKind}
-use Rattle.kernel_laws.specs.declared.question_types.kind.CallKind.TheVariants.{ForNamespace, SetsCaps}
+use Rattle.kernel_laws.specs.declared.question_types.kind.CallKind.TheVariants.{ForNamespace, SetsCaps, SetsUpRing, Submits}
 use Rattle.filter_settings.specs.linux_numbers.declared.namespaces.NamespaceType.TheVariants.{User}
 
 -- the table of calls and the site that the kernel is given, and process 1: its credentials(7), its filters (seccomp(2)), the oldest
@@ -85,6 +85,14 @@ lets launch kind = list_any (lets_line launch kind) (calls.every_call launch.cal
 abbrev pub can_make_user : Launch → Bool
 can_make_user launch = nat_lt 0 launch.site.user_namespaces && lets launch (ForNamespace User)
 
+-- processes can set up rings, io_uring_setup(2): the host allows it, and some call for it passes
+abbrev pub makes_ring : Launch → Bool
+makes_ring launch = launch.site.io_uring && lets launch SetsUpRing
+
+-- and submit requests to them, io_uring_enter(2)
+abbrev pub can_submit : Launch → Bool
+can_submit launch = makes_ring launch && lets launch Submits
+
 -- of calls that the filters let through and that ask for one kind, the one with the chosen words passes too
 pub record Chosen (launch : Launch) (kind : CallKind) (rule : Rule) (abi nr : ℕ) : Type 0 where
   pub args : List ℕ
@@ -110,6 +118,8 @@ pub record IsLaunched (launch : Launch) : Type 0 where
   pub saved : launch.creds.uids.saved ≡ launch.creds.uids.effective
   pub real_gid : launch.creds.gids.real ≡ launch.creds.gids.effective
   pub saved_gid : launch.creds.gids.saved ≡ launch.creds.gids.effective
+  -- the execve(2) of the launch closed a ring
+  pub no_ring : launch.creds.ring ≡ false
   -- the program is not privileged, so all that is permitted is effective
   pub full : launch.creds.effective ≡ launch.creds.permitted
   pub ambient_inheritable : IsWithin launch.creds.ambient launch.creds.inheritable

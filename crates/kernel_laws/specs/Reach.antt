@@ -9,10 +9,18 @@ use Rattle.kernel_model.specs.kern_mounts.declared.step.What.{What}
 use Rattle.kernel_model.specs.kern_mounts.declared.step.What.TheVariants.{Host, Empty, Hidden}
 use Rattle.kernel_model.specs.kern_mounts.declared.step.MountStep.{MountStep}
 use Rattle.kernel_model.specs.kern_mounts.Split.{Table, Split, split_at}
+use Rattle.kernel_model.specs.site_table.declared.kinds.RowKind.{RowKind}
+use Rattle.kernel_model.specs.site_table.Kinds.{is_dev}
 use Rattle.kernel_laws.specs.declared.question_types.wish.Wish.{Wish}
 use Rattle.kernel_laws.specs.declared.question_types.wish.Wish.TheVariants.{See as ToSee, Read as ToRead, Write as ToWrite, Exec as ToExec}
 use Rattle.kernel_laws.specs.declared.question_types.power.Power.{Power}
 use Rattle.kernel_laws.specs.declared.question_types.power.Power.TheVariants.{None as Nowise, Unmount as Unmounting, Mount as Mounting}
+
+-- what a wish for a row of this kind asks of its mount: to write a device no more than to read it, because a read-only mount keeps no
+-- device
+abbrev pub mount_wish : RowKind → Wish → Wish
+mount_wish kind ToWrite = if is_dev kind then ToRead else ToWrite
+mount_wish kind wish = wish
 
 -- what is wished may be done on a mount with these flags, mount(2)
 abbrev pub fits : Wish → Flags → Bool

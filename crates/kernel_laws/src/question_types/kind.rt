@@ -24,7 +24,7 @@ pub enum CallKind {
     AttachesReadOnlyX,
     /// A realtime policy, sched(7).
     SchedulesRealtime,
-    /// A set-id bit of a file that open(2) or openat(2) makes.
+    /// A set-id bit of a file that open(2), openat(2) or creat(2) makes.
     OpensMode,
     /// A realtime policy by sched_setattr(2), which needs CAP_SYS_NICE.
     SetsRealtime,
@@ -42,4 +42,8 @@ pub enum CallKind {
     TakesUid,
     /// Another gid, setgid(2), setresgid(2), setgroups(2).
     TakesGid,
+    /// A ring, io_uring_setup(2).
+    SetsUpRing,
+    /// A request to a ring, io_uring_enter(2).
+    Submits,
 }

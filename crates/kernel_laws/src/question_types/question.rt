@@ -8,11 +8,11 @@ use filter_settings::linux_numbers::namespaces::NamespaceType;
 /// Rows, calls and families go by their numbers in the tables, from 0.
 #[derive(Clone, Copy)]
 pub enum Question {
-    /// See, read, write or execute the row of this number.
+    /// See, read, write or execute the row of this number, by a call or by a ring.
     Path(Wish, usize),
     /// Make the call of this number in the table's list of all calls, which no rule of the kernel names, by any ABI.
     Call(usize),
-    /// Make a socket of the family of this number, socket(2), socketcall(2), socketpair(2).
+    /// Make a socket of the family of this number, socket(2), socketcall(2), socketpair(2), or by a ring.
     Socket(usize),
     /// Make a namespace of this type, clone(2), unshare(2).
     Namespace(NamespaceType),
@@ -26,7 +26,7 @@ pub enum Question {
     Realtime,
     /// Take another execution domain, personality(2).
     Personality,
-    /// Set a set-user-id or set-group-id bit of a file, chmod(2), inode(7).
+    /// Set a set-user-id or set-group-id bit of a file, chmod(2), inode(7), or by a ring.
     SuidBit,
     /// Or have this capability effective, capabilities(7)?
     Cap(u8),
