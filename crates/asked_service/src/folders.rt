@@ -14,6 +14,6 @@ pub fn is_named(asked: &Asked<'_>, row: &Row) -> bool
 {
     match row.kind {
         RowKind::Dir => blind(&asked.bounded.service, &asked.bounded.ceiling, &row.path),
-        RowKind::File | RowKind::Exe => false,
+        RowKind::File | RowKind::Exe | RowKind::Dev => false,
     }
 }

@@ -85,7 +85,8 @@ fn path_words(wish: Wish, rule: CallRule) -> Option<[u64; 6]>
             CallRule::Open(flags) | CallRule::OpenWith(flags) => {
                 Some(one_word(flags.place(), O_WRONLY))
             }
-            CallRule::Openat2 | CallRule::Create | CallRule::Truncate => Some(NO_WORDS),
+            CallRule::Openat2 | CallRule::Create | CallRule::CreateWith | CallRule::Truncate =>
+                Some(NO_WORDS),
             _ => None,
         },
         Wish::Exec => match rule {
@@ -128,12 +129,15 @@ fn known_words(kind: CallKind, rule: CallRule) -> Option<[u64; 6]>
         (CallKind::TakesPersonality, CallRule::Personality) => one_word(0, PER_LINUX32),
         (CallKind::SetsMode, CallRule::SetMode(mode)) => one_word(mode.place(), S_ISUID),
         (CallKind::OpensMode, CallRule::OpenWith(flags)) => made_words(flags),
+        (CallKind::CreatesMode, CallRule::CreateWith) => one_word(1, S_ISUID),
         (CallKind::ChangesMounts, CallRule::Mount)
         | (CallKind::RemovesMounts, CallRule::Umount)
         | (CallKind::SetsCaps, CallRule::Capset)
         | (CallKind::TakesUid, CallRule::Setuid | CallRule::Setresuid | CallRule::Setreuid)
         | (CallKind::TakesGid, CallRule::Setgid | CallRule::Setresgid)
-        | (CallKind::TakesGid, CallRule::Setregid | CallRule::Setgroups) => NO_WORDS,
+        | (CallKind::TakesGid, CallRule::Setregid | CallRule::Setgroups)
+        | (CallKind::SetsUpRing, CallRule::SetUpRing)
+        | (CallKind::Submits, CallRule::Submit) => NO_WORDS,
         _ => return None,
     };
     Some(words)

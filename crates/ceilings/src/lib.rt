@@ -36,12 +36,12 @@ pub use kernel_ways::linux_numbers::capabilities::{
 };
 pub use kernel_ways::{
     FilterProgram, LaunchError, Launched, Mentioned, MountSteps, Need, PlanError, Resolved,
-    Settings, SettingsError, Version, blindness, is_covered, is_read, launch, openness, plan,
-    reach, reach_for, settings,
+    Settings, SettingsError, Version, blindness, is_covered, is_read, launch, mount_wish, openness,
+    plan, reach, reach_for, settings,
 };
 pub use leads::{RowLeads, reach_by};
 pub use making::ceiling;
 pub use memory::{attaching, refuses_memory};
 pub use passing::PathCalls;
 pub use programs::{can_run, is_barred, runs_plainly};
-pub use ruled::{LineRules, can_make_user};
+pub use ruled::{LineRules, can_make_user, can_submit};

@@ -2,14 +2,14 @@
 
 ghost use Rattle.std.specs.Prelude.{◌≡◌};
 ghost use Rattle.kernel_ways.specs.kernel_laws.Launched.{launch_of};
-ghost use Rattle.ceilings.specs.Passing.{ArePassing, ArePathCalls, passes};
+ghost use Rattle.ceilings.specs.Passing.{ArePassing, ArePathCalls, asks_for, passes};
 ghost use Rattle.ceilings.specs.Ruled.{AreRules};
 
-use crate::ruled::LineRules;
+use crate::ruled::{LineRules, can_submit};
 use kernel_model::World;
 use kernel_ways::{CallKind, Wish};
 
-/// Whether some call passes that sees, reads, writes or executes a path.
+/// Whether some call passes that sees, reads, writes or executes a path, and whether a ring does so.
 #[derive(Clone, Copy)]
 pub struct PathCalls {
     /// stat(2) and similar calls.
@@ -20,6 +20,8 @@ pub struct PathCalls {
     pub write: bool,
     /// execve(2).
     pub exec: bool,
+    /// Requests to a ring, io_uring_enter(2).
+    pub submit: bool,
 }
 
 impl PathCalls {
@@ -33,6 +35,7 @@ impl PathCalls {
             read: rules.let_through(world, CallKind::ForPath(Wish::Read)),
             write: rules.let_through(world, CallKind::ForPath(Wish::Write)),
             exec: rules.let_through(world, CallKind::ForPath(Wish::Exec)),
+            submit: can_submit(world, rules),
         }
     }
 
@@ -45,6 +48,17 @@ impl PathCalls {
             Wish::Read => self.read,
             Wish::Write => self.write,
             Wish::Exec => self.exec,
+        }
+    }
+
+    /// Returns whether some call passes that does this, or a request to a ring can be submitted that does it. No request
+    /// executes a file.
+    pub fn can_ask(self, wish: Wish) -> bool
+        ensures by_a_call_or_a_ring { result ≡ asks_for self wish }
+    {
+        match wish {
+            Wish::Exec => self.exec,
+            Wish::See | Wish::Read | Wish::Write => self.passes(wish) || self.submit,
         }
     }
 }

@@ -25,7 +25,7 @@ pub fn can_run(world: &World<'_>, power: Power, row: &Row) -> bool
     ensures runs { result ≡ can_run (launch_of world.now) power row.now }
 {
     match row.kind {
-        RowKind::Dir | RowKind::File => false,
+        RowKind::Dir | RowKind::File | RowKind::Dev => false,
         RowKind::Exe => {
             !is_barred(world, row)
                 && reach_for(launched_table(world), &row.path, Need::Marked, power).is_some()

@@ -3,7 +3,7 @@
 ghost use Rattle.std.specs.Prelude.{◌≡◌, map, IfOk};
 ghost use Rattle.std.specs.List.{list_any};
 ghost use Rattle.kernel_ways.specs.kernel_model.kernel_calls.Rules.{rule_of};
-ghost use Rattle.kernel_ways.specs.kernel_laws.Launched.{can_make_user, launch_of, lets, lets_line};
+ghost use Rattle.kernel_ways.specs.kernel_laws.Launched.{can_make_user, can_submit, launch_of, lets, lets_line};
 ghost use Rattle.ceilings.specs.Ruled.{AreRules};
 
 use crate::calls::{lets_rule, rule_of};
@@ -85,4 +85,15 @@ pub fn can_make_user(world: &World<'_>, rules: &LineRules) -> bool
 {
     world.site_table().user_namespaces() > 0
         && rules.let_through(world, CallKind::ForNamespace(NamespaceType::User))
+}
+
+/// Returns whether requests can be submitted to a ring, io_uring_enter(2): the site has rings, some call passes that sets one up,
+/// and some call passes that submits a request.
+pub fn can_submit(world: &World<'_>, rules: &LineRules) -> bool
+    requires of_the_table { AreRules (launch_of world.now) rules.now }
+    ensures allowed_and_let_through { result ≡ can_submit (launch_of world.now) }
+{
+    world.site_table().io_uring()
+        && rules.let_through(world, CallKind::SetsUpRing)
+        && rules.let_through(world, CallKind::Submits)
 }

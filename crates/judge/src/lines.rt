@@ -70,7 +70,8 @@ pub(crate) fn is_call_open(world: &World<'_>, top: &Ceiling, at: usize) -> bool
     }
 }
 
-// Returns whether a socket of the family of this number in the table can be made, socket(2), socketcall(2).
+// Returns whether a socket of the family of this number in the table can be made, by socket(2), socketcall(2) or socketpair(2),
+// or by a request to a ring.
 pub(crate) fn is_socket_open(world: &World<'_>, top: &Ceiling, at: usize) -> bool
     requires { IsCeilingOf (launch_of world.now) top.now }
     ensures { let launch = launch_of world.now in result ≡ open_at launch (power_of launch) (ceiling launch) (Socket at) }
@@ -78,7 +79,8 @@ pub(crate) fn is_socket_open(world: &World<'_>, top: &Ceiling, at: usize) -> boo
     match world.call_table().families().get(at) {
         None => false,
         Some(line) => {
-            can_have_cap(top, line.cap) && passes(world, top, CallKind::ForFamily(line.number))
+            (passes(world, top, CallKind::ForFamily(line.number)) || top.paths.submit)
+                && can_have_cap(top, line.cap)
         }
     }
 }

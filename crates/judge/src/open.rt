@@ -31,6 +31,7 @@ pub(crate) fn is_open(world: &World<'_>, ceiling: &Ceiling, question: &Question)
         Question::SuidBit => {
             passes(world, ceiling, CallKind::SetsMode)
                 || passes(world, ceiling, CallKind::OpensMode)
+                || ceiling.paths.submit
         }
         Question::Cap(cap) => ceiling.effective.contains(*cap),
         Question::Uid(id) => is_uid_open(ceiling, *id),

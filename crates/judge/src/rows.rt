@@ -8,7 +8,7 @@ ghost use Rattle.ceilings.specs.Leads.{leads_of};
 ghost use Rattle.ceilings.specs.Own.{IsCeilingOf};
 
 use crate::lines::makes_user;
-use ceilings::{Ceiling, Row, RowLeads, is_barred, reach_by, runs_plainly};
+use ceilings::{Ceiling, Row, RowLeads, is_barred, mount_wish, reach_by, runs_plainly};
 use questions::{Wish, World};
 
 // Returns whether the wish is to execute a barred row, no mount with nosuid leads to it, and no user namespace can be
@@ -28,16 +28,16 @@ fn is_refused(world: &World<'_>, top: &Ceiling, wish: Wish, row: &Row) -> bool
     }
 }
 
-// Returns whether a call on paths passes for the wish, some table of the power shows the row, to which these entries
-// lead, and execve does not refuse the row.
+// Returns whether the wish can be asked for, by a call or by a ring, some table of the power shows the row, to which these
+// entries lead, and execve does not refuse the row.
 fn can_reach(world: &World<'_>, top: &Ceiling, wish: Wish, leads: RowLeads, row: &Row) -> bool
     requires launched { IsLaunchedWorld world.now }
     requires its_own_ceiling { IsCeilingOf (launch_of world.now) top.now }
     requires of_the_row { leads ≡ leads_of (launch_of world.now).table row.now.path }
     ensures { let launch = launch_of world.now in result ≡ can_reach launch (power_of launch) wish row.now }
 {
-    top.paths.passes(wish)
-        && reach_by(world, leads, top.power, wish, row).is_some()
+    top.paths.can_ask(wish)
+        && reach_by(world, leads, top.power, mount_wish(row.kind, wish), row).is_some()
         && !is_refused(world, top, wish, row)
 }
 

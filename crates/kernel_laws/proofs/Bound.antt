@@ -43,7 +43,7 @@ within_when false set c e h = cc
 same_within : (a b : ℕ) → a ≡ b → IsWithin a b
 same_within a b e = subst (IsWithin a) e (within_self a)
 
-listed_any : (p : Row → Bool) (rows : List Row) (at : ℕ) (row : Row) → slice_get rows at ≡ Some row → p row ≡ true → list_any p rows ≡ true
+pub listed_any : (p : Row → Bool) (rows : List Row) (at : ℕ) (row : Row) → slice_get rows at ≡ Some row → p row ≡ true → list_any p rows ≡ true
 listed_any p [] at row e h = cc
 listed_any p (first ∷ rows) zero row e h = let same : first ≡ row = cc in or_left (p first) (list_any p rows) (ap p same ∙ h)
 listed_any p (first ∷ rows) (suc at) row e h = or_right (p first) (list_any p rows) (listed_any p rows at row e h)

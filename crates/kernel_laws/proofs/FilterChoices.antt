@@ -378,10 +378,10 @@ kind-Create kind first e = cc
 
 -- creat(2) that is asked for a set-id bit by its mode
 created_mode : (mode : ℕ) (payload : Payload) (operation : Operation) → by_path (d.Create mode) payload ≡ Some operation
-    → asks k.OpensMode operation ≡ true → sets_id_bit mode ≡ true
+    → asks k.CreatesMode operation ≡ true → sets_id_bit mode ≡ true
 created_mode mode (pay.OnePath path) operation e h =
     let own : d.Create mode path ≡ operation = cc in
-    id_bit mode (ap (asks k.OpensMode) own ∙ h)
+    id_bit mode (ap (asks k.CreatesMode) own ∙ h)
 created_mode mode payload operation e h = cc
 
 -- the first words for another kind have no mode
@@ -393,7 +393,7 @@ kind-CreateWith (k.ForPath wish_to.Read) mode payload operation first e h are = 
 kind-CreateWith (k.ForPath wish_to.Write) mode payload operation first e h are =
     inl (ap (λ (w : List ℕ). low_word w 1) (sym (first_is no_words first are)))
 kind-CreateWith (k.ForPath wish_to.Exec) mode payload operation first e h are = cc
-kind-CreateWith k.OpensMode mode payload operation first e h are = inr (created_mode mode payload operation e h)
+kind-CreateWith k.CreatesMode mode payload operation first e h are = inr (created_mode mode payload operation e h)
 kind-CreateWith kind mode payload operation first e h are = cc
 
 kind-Open-1 : (kind : CallKind) (first : List ℕ) → words kind (rule.Known (known.Open argument.Second)) ≡ Some first
@@ -648,9 +648,9 @@ module _ (line : CallLine) (rule' : Rule) (kind : CallKind) (payload : Payload) 
           given (inl own) r = none (kind-Create kind first.args (words_at (rule.Known known.Create) own)) r
           given (inr own) r = elim (kind-CreateWith kind (low_word input.args 1) payload operation first.args
               (ap (λ (r : Rule). operation_by r input.args payload) own ∙ does) asked (words_at (rule.Known known.CreateWith) own)) [
-            | inl zero' ↦ none zero' r
-            | inr bit ↦ bit
-          ]
+                | inl zero' ↦ none zero' r
+                | inr bit ↦ bit
+              ]
 
       opens : Suid (codes "open")
       opens n = by_name refuses_mode (codes "open") n

@@ -85,7 +85,7 @@ given-CreateWith args path (k.ForPath wish_to.Write) h = record { args = _; are 
 given-CreateWith args path (k.ForPath wish_to.See) h = cc
 given-CreateWith args path (k.ForPath wish_to.Read) h = cc
 given-CreateWith args path (k.ForPath wish_to.Exec) h = cc
-given-CreateWith args path k.OpensMode h = record { args = _; are = refl }
+given-CreateWith args path k.CreatesMode h = record { args = _; are = refl }
 given-CreateWith args path kind h = cc
 
 given-Truncate : (path : Path) → Given (d.Truncate path) (rule.Known known.Truncate)

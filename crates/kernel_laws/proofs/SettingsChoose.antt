@@ -134,7 +134,7 @@ known_fit k.TakesPersonality known.Personality first h e = by_same (one_word 0 8
 known_fit k.SetsMode (known.SetMode at) first h e = by_same (one_word (place_of at) 0x800) first
     (word_words (place_of at) 0x800 (omega arith)) e
 known_fit k.OpensMode (known.OpenWith at) first h e = by_same (made_words at) first (made_small at) e
-known_fit k.OpensMode known.CreateWith first h e = by_same (one_word 1 0x800) first (word_words 1 0x800 (omega arith)) e
+known_fit k.CreatesMode known.CreateWith first h e = by_same (one_word 1 0x800) first (word_words 1 0x800 (omega arith)) e
 known_fit k.ChangesMounts known.Mount first h e = by_same no_words first bare_words e
 known_fit k.RemovesMounts known.Umount first h e = by_same no_words first bare_words e
 known_fit k.SetsCaps known.Capset first h e = by_same no_words first bare_words e

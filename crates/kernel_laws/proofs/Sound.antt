@@ -10,7 +10,7 @@ use Rattle.kernel_model.specs.site_table.declared.row.Row.{Row}
 use Rattle.kernel_model.specs.site_table.Table.{row_at}
 use Rattle.kernel_model.specs.kern_creds.declared.creds.Creds.{Creds}
 use Rattle.kernel_model.specs.kern_creds.Exec.{is_refused, exec_done_in, exec_in}
-use Rattle.kernel_model.specs.kern_mounts.Finds.{Found, row, finds}
+use Rattle.kernel_model.specs.kern_mounts.Finds.{Found, row, empty_directory, nothing, finds}
 use Rattle.kernel_model.specs.kern_mounts.declared.step.Flags.{Flags}
 use Rattle.std.specs.Int.RustNames.{bit_and}
 use Rattle.kernel_model.specs.kern_files.Bits.{has_some, has_all}
@@ -81,6 +81,24 @@ module _ (world : World) (pid : ℕ) (process : Process) where
       by false true e h = h
       by false false e h = cc
 
+  -- what a call that writes has found
+  pub record Written (flags : Flags) (found : Found Row) : Type 0 where
+    pub target : Row
+    pub is : found ≡ row target
+    pub file : is_dir target.kind ≡ false
+    pub free : is_kept flags target ≡ false
+
+  pub written_done : (value : ℕ) (flags : Flags) (found : Found Row) → D (looks (write_answer value flags found)) → Written flags found
+  written_done value flags empty_directory h = absurd h
+  written_done value flags (nothing errno) h = absurd h
+  written_done value flags (row target) h = by (is_dir target.kind) refl (is_kept flags target) refl h
+    where
+      by : (a : Bool) → is_dir target.kind ≡ a → (b : Bool) → is_kept flags target ≡ b
+          → D (looks (cond {A = Result ℕ ℕ} a (Err eisdir) (cond {A = Result ℕ ℕ} b (Err erofs) (Ok value)))) → Written flags (row target)
+      by true e b g h = absurd h
+      by false e true g h = absurd h
+      by false e false g h = record { target = target; is = refl; file = e; free = g }
+
   -- io_uring_enter(2) is done by a process that has a ring, and as its request is
   pub ring_done : (request : Request) → D (effect_of (host_of world) (caller_of world process) (d.Submit request))
       → (process.creds.ring ≡ true) × D (request_effect (host_of world) (caller_of world process) request)
@@ -109,7 +127,7 @@ module _ (world : World) (pid : ℕ) (process : Process) where
           record { exe = ran.exe; runs = ran.runs; taken = by_refused (is_refused creds (marks_of target) flags.no_suid) (subst P ran.is h) }
 
 -- what a read-only mount does not keep has the flags that its writing needs
-fits_kept : (flags : Flags) (target : Row) → is_kept flags target ≡ false → fits (mount_wish target.kind ToWrite) flags ≡ true
+pub fits_kept : (flags : Flags) (target : Row) → is_kept flags target ≡ false → fits (mount_wish target.kind ToWrite) flags ≡ true
 fits_kept flags target h = by (is_dev target.kind) h
   where
     not_of : (only : Bool) → (only && not false) ≡ false → not only ≡ true

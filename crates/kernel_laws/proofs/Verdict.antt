@@ -59,7 +59,7 @@ use Rattle.kernel_laws.specs.Kinds.{asks, asks_number}
 use Rattle.kernel_laws.specs.Launched.{Launch, data_at, lets, lets_line, can_make_user, can_submit, IsLaunched, launch_of}
 use Rattle.kernel_laws.specs.Ceiling.{IsHeld, IsStable, TableIn}
 use Rattle.kernel_laws.specs.Bound.{power_of, ceiling, is_open, can_reach, is_to_exec, is_user, is_barred, can_have_cap, runs_plainly}
-use Rattle.kernel_laws.specs.Bound.{can_have_for, if_listed, is_call_open, can_ask, can_make_socket}
+use Rattle.kernel_laws.specs.Bound.{can_have_for, if_listed, is_call_open, can_ask, can_make_socket, can_write, can_create}
 use Rattle.kernel_laws.specs.NewerTables.{CanHaveNewer}
 use Rattle.kernel_laws.proofs.NewerTables.{tables_stable, rows_are_reached}
 use Rattle.kernel_model.specs.kern_mounts.Mounts.{Mounts, steps_of}
@@ -70,12 +70,13 @@ use Rattle.kernel_laws.proofs.Moments.{no_moment}
 use Rattle.kernel_laws.proofs.Done.{WasDone, was_done}
 use Rattle.kernel_laws.proofs.Filters.{bare_is, lets_through, line_lets, HasRule, has_rule, Asks, asks_for, at_position, any_found}
 use Rattle.kernel_laws.proofs.Filters.{found_all, among_all, all_in, slice_all}
-use Rattle.kernel_laws.proofs.Reach.{leads, reaches_if}
+use Rattle.kernel_laws.proofs.Bound.{listed_any}
+use Rattle.kernel_laws.proofs.Reach.{leads, listed, reaches_if}
 use Rattle.kernel_laws.proofs.Held.{AllHeld, launched_held, ceiling_step, ceiling_run, cap_within, uid_within, gid_within}
 use Rattle.kernel_laws.proofs.KeptExec.{off}
 use Rattle.kernel_laws.proofs.Newer.{ids_of}
 use Rattle.kernel_laws.proofs.Sound.{DoneBy, MadeSpace, wish_fits, run_taken, space_done, cap_done}
-use Rattle.kernel_laws.proofs.Sound.{map_done, attach_done, ring_done}
+use Rattle.kernel_laws.proofs.Sound.{map_done, attach_done, ring_done, written_done, fits_kept}
 
 module _ (launch : Launch) (l : IsLaunched launch) (below : Mounts → Type 0) (stable : IsStable launch (power_of launch) below) where
   abbrev power : Power
@@ -383,23 +384,41 @@ module _ (launch : Launch) (l : IsLaunched launch) (below : Mounts → Type 0) (
       by w own is e = cc
 
   -- ---- set-id bits
-  suid_open : (now : World) (call : Call) → IsCall call → All now → Performs asks_mode (moment_at now call)
+  -- what creat(2) writes can be written
+  created_open : LeadsToReached → (now : World) (call : Call) → IsCall call → All now → (w : WasDone now call) → (mode : ℕ) (path : Path)
+      → w.operation ≡ d.Create mode path → asks k.CreatesMode (d.Create mode path) ≡ true → can_create launch power ≡ true
+  created_open less now call fit held w mode path is asked =
+      let table = table_of now w.process.namespace in
+      let flags = flags_at table path in
+      let P : Operation → Type 0 = λ own. DoneBy now call.pid w.process (effect_of (host_of now) (caller_of now w.process) own) in
+      let x = written_done now call.pid w.process 3 flags (finds (row_at now.site.rows) table path) (subst P is w.done) in
+      let seen : finds (row_at launch.site.rows) table path ≡ row x.target = ap (λ (s : Site). finds (row_at s.rows) table path) (sym held.site) ∙ x.is in
+      let wish = mount_wish x.target.kind ToWrite in
+      let lead = leads launch.site.rows table path x.target (fits wish) seen (fits_kept flags x.target x.free) in
+      let h = held_of now call held w in
+      let there = reaches_in less (eqb h.space.owner 1) (mounts_of now w.process.namespace) x.target.path wish (own_allowed launch power top below now w.process h) lead in
+      let own = listed launch.site.rows table path x.target seen in
+      and_from _ _ (kind_lets now call fit held w k.CreatesMode (ap (asks k.CreatesMode) is ∙ asked))
+      (listed_any (can_write launch power) launch.site.rows own.0 x.target own.1 (and_from _ _ (ap not x.file) there))
+
+  suid_open : LeadsToReached → (now : World) (call : Call) → IsCall call → All now → Performs asks_mode (moment_at now call)
       → is_open launch asking.SuidBit ≡ true
-  suid_open now call fit held p =
+  suid_open less now call fit held p =
       let w = was_done now call p.done in
       let same = same_operation now call p.operation w.operation p.is w.asks in
       by w w.operation refl (ap asks_mode (sym same) ∙ p.such)
     where
-      made : (w : WasDone now call) (own : Operation) → w.operation ≡ own → asks k.OpensMode own ≡ true → is_open launch asking.SuidBit ≡ true
-      made w own is e =
-          or_left _ _ (or_right (lets launch k.SetsMode) _ (kind_lets now call fit held w k.OpensMode (ap (asks k.OpensMode) is ∙ e)))
-
       by : (w : WasDone now call) (own : Operation) → w.operation ≡ own → asks_mode own ≡ true → is_open launch asking.SuidBit ≡ true
-      by w (d.SetMode mode) is e = or_left _ _ (or_left _ _ (kind_lets now call fit held w k.SetsMode (ap (asks k.SetsMode) is ∙ e)))
-      by w (d.Open flags mode path) is e = made w (d.Open flags mode path) is e
-      by w (d.Create mode path) is e = made w (d.Create mode path) is e
+      by w (d.SetMode mode) is e =
+          or_left _ _ (or_left _ _ (or_left _ _ (kind_lets now call fit held w k.SetsMode (ap (asks k.SetsMode) is ∙ e))))
+      by w (d.Open flags mode path) is e =
+          or_left _ _ (or_left _ _ (or_right (lets launch k.SetsMode) _
+          (kind_lets now call fit held w k.OpensMode (ap (asks k.OpensMode) is ∙ e))))
       by w (d.Submit request) is e =
-          or_right (lets launch k.SetsMode || lets launch k.OpensMode) _ (submits now call fit held w request is)
+          or_left _ _ (or_right (lets launch k.SetsMode || lets launch k.OpensMode) _ (submits now call fit held w request is))
+      by w (d.Create mode path) is e =
+          or_right ((lets launch k.SetsMode || lets launch k.OpensMode) || can_submit launch) _
+          (created_open less now call fit held w mode path is e)
       by w own is e = cc
 
   space_open : (space : NamespaceType) (now : World) (call : Call) → IsCall call → All now
@@ -479,7 +498,7 @@ module _ (launch : Launch) (l : IsLaunched launch) (below : Mounts → Type 0) (
   reached_open less asking.Realtime asked now call fit held r = realtime_open now call fit held r
   reached_open less asking.Personality asked now call fit held r =
       kind_of now call fit held asks_personality r k.TakesPersonality (λ operation e. e)
-  reached_open less asking.SuidBit asked now call fit held r = suid_open now call fit held r
+  reached_open less asking.SuidBit asked now call fit held r = suid_open less now call fit held r
   reached_open less (asking.Cap number) asked now call fit held r = absurd r
   reached_open less (asking.Uid id) asked now call fit held r = absurd r
   reached_open less (asking.Gid id) asked now call fit held r = absurd r

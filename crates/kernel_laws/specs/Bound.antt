@@ -8,7 +8,7 @@ use Rattle.kernel_model.specs.cap_sets.Sets.{has, none, union, cut, within}
 use Rattle.kernel_model.specs.site_table.declared.row.Row.{Row}
 use Rattle.filter_settings.specs.linux_numbers.Capabilities.{cap_sys_admin, cap_sys_nice, cap_setuid, cap_setgid}
 use Rattle.kernel_laws.specs.Bounds.{Bounds}
-use Rattle.kernel_model.specs.site_table.Kinds.{is_exe}
+use Rattle.kernel_model.specs.site_table.Kinds.{is_dir, is_exe}
 use Rattle.kernel_laws.specs.Reach.{reaches, reaches_with, mount_wish, runs_marked, runs_unmarked}
 use Rattle.kernel_model.specs.declared.kernel_calls.rule.Rule.{Rule}
 use Rattle.kernel_model.specs.declared.kernel_calls.rule.Rule.TheVariants.{Plain}
@@ -19,7 +19,7 @@ use Rattle.kernel_laws.specs.declared.question_types.kind.CallKind.{CallKind}
 use Rattle.kernel_laws.specs.declared.question_types.kind.CallKind.TheVariants.{ForPath, PlainCall, ForFamily, ForNamespace, MapsWx}
 use Rattle.kernel_laws.specs.declared.question_types.kind.CallKind.TheVariants.{ProtectsX, AttachesX, AttachesReadOnlyX, SchedulesRealtime, SetsRealtime}
 use Rattle.kernel_laws.specs.declared.question_types.kind.CallKind.TheVariants.{TakesPersonality}
-use Rattle.kernel_laws.specs.declared.question_types.kind.CallKind.TheVariants.{SetsMode, OpensMode, ChangesMounts, RemovesMounts, SetsCaps, TakesUid}
+use Rattle.kernel_laws.specs.declared.question_types.kind.CallKind.TheVariants.{SetsMode, OpensMode, CreatesMode, ChangesMounts, RemovesMounts, SetsCaps, TakesUid}
 use Rattle.kernel_laws.specs.declared.question_types.kind.CallKind.TheVariants.{TakesGid}
 use Rattle.kernel_laws.specs.declared.question_types.wish.Wish.{Wish}
 use Rattle.kernel_laws.specs.declared.question_types.wish.Wish.TheVariants.{See as ToSee, Read as ToRead, Write as ToWrite, Exec as ToExec}
@@ -196,6 +196,14 @@ is_call_open launch top line = list_any (λ other. bytes_eq line.name other.name
 abbrev pub can_make_socket : Launch → ℕ → Bool
 can_make_socket launch family = lets launch (ForFamily family) || can_submit launch
 
+-- a file that some table shows where it can be written
+abbrev pub can_write : Launch → Power → Row → Bool
+can_write launch power row = not (is_dir row.kind) && reaches power launch.table row.path (mount_wish row.kind ToWrite)
+
+-- creat(2) of some file passes with a set-id bit: it writes the file, so the file must be such
+abbrev pub can_create : Launch → Power → Bool
+can_create launch power = lets launch CreatesMode && list_any (can_write launch power) launch.site.rows
+
 -- shmat(2) of memory to be executed: once PR_SET_MDWE of prctl(2) refuses memory to be both written and executed, it is not to be written
 abbrev pub attaching : Launch → CallKind
 attaching launch = if launch.creds.mdwe then AttachesReadOnlyX else AttachesX
@@ -214,7 +222,7 @@ open_at launch power top ProtectX = lets launch ProtectsX
 open_at launch power top ShmX = lets launch (attaching launch)
 open_at launch power top Realtime = lets launch SchedulesRealtime || (lets launch SetsRealtime && can_have_cap top (Some cap_sys_nice))
 open_at launch power top Personality = lets launch TakesPersonality
-open_at launch power top SuidBit = (lets launch SetsMode || lets launch OpensMode) || can_submit launch
+open_at launch power top SuidBit = ((lets launch SetsMode || lets launch OpensMode) || can_submit launch) || can_create launch power
 open_at launch power top (Cap number) = has top.effective number
 open_at launch power top (Uid id) = top.uid id
 open_at launch power top (Gid id) = top.gid id

@@ -22,7 +22,7 @@ use Rattle.kernel_laws.specs.declared.question_types.kind.CallKind.{CallKind}
 use Rattle.kernel_laws.specs.declared.question_types.kind.CallKind.TheVariants.{ForPath, PlainCall, ForFamily, ForNamespace, MapsWx}
 use Rattle.kernel_laws.specs.declared.question_types.kind.CallKind.TheVariants.{ProtectsX, AttachesX, AttachesReadOnlyX, SchedulesRealtime, SetsRealtime}
 use Rattle.kernel_laws.specs.declared.question_types.kind.CallKind.TheVariants.{TakesPersonality}
-use Rattle.kernel_laws.specs.declared.question_types.kind.CallKind.TheVariants.{SetsMode, OpensMode, ChangesMounts, RemovesMounts, SetsCaps, TakesUid}
+use Rattle.kernel_laws.specs.declared.question_types.kind.CallKind.TheVariants.{SetsMode, OpensMode, CreatesMode, ChangesMounts, RemovesMounts, SetsCaps, TakesUid}
 use Rattle.kernel_laws.specs.declared.question_types.kind.CallKind.TheVariants.{TakesGid, SetsUpRing, Submits}
 use Rattle.filter_settings.specs.linux_numbers.declared.namespaces.NamespaceType.{NamespaceType}
 use Rattle.filter_settings.specs.linux_numbers.Namespaces.{flag_of}
@@ -38,11 +38,15 @@ abbrev pub asks_set_mode : Operation → Bool
 asks_set_mode (operation.SetMode mode) = has_id_bit mode
 asks_set_mode _ = false
 
--- open(2), openat(2) and creat(2) of a file that they make
+-- open(2) and openat(2) of a file that they make
 abbrev pub asks_made_mode : Operation → Bool
 asks_made_mode (operation.Open flags mode path) = has_id_bit mode && makes_file flags
-asks_made_mode (operation.Create mode path) = has_id_bit mode
 asks_made_mode _ = false
+
+-- creat(2), which opens for writing what it makes
+abbrev pub asks_created_mode : Operation → Bool
+asks_created_mode (operation.Create mode path) = has_id_bit mode
+asks_created_mode _ = false
 
 -- sched_setscheduler(2), which needs no capability
 abbrev pub asks_schedule : Operation → Bool
@@ -111,6 +115,7 @@ asks SetsRealtime operation = asks_attributes operation
 asks TakesPersonality operation = asks_personality operation
 asks SetsMode operation = asks_set_mode operation
 asks OpensMode operation = asks_made_mode operation
+asks CreatesMode operation = asks_created_mode operation
 asks ChangesMounts operation = asks_mount operation
 asks RemovesMounts operation = asks_umount operation
 asks SetsCaps operation = asks_caps operation
@@ -162,7 +167,7 @@ words SetsRealtime (rule.Known known.SetAttributes) = Some no_words
 words TakesPersonality (rule.Known known.Personality) = Some (one_word 0 8)
 words SetsMode (rule.Known (known.SetMode mode)) = Some (one_word (place_of mode) 0x800)
 words OpensMode (rule.Known (known.OpenWith flags)) = Some (made_words flags)
-words OpensMode (rule.Known known.CreateWith) = Some (one_word 1 0x800)
+words CreatesMode (rule.Known known.CreateWith) = Some (one_word 1 0x800)
 words ChangesMounts (rule.Known known.Mount) = Some no_words
 words RemovesMounts (rule.Known known.Umount) = Some no_words
 words SetsCaps (rule.Known known.Capset) = Some no_words

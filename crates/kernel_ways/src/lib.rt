@@ -72,4 +72,4 @@ pub use launcher::{
     NamespaceType, PlanError, Power, Resolved, Settings, SettingsError, Version, Wish, is_read,
     launch, linux_numbers, plan, settings,
 };
-pub use reach_paths::{Need, is_covered, reach, reach_for};
+pub use reach_paths::{Need, is_covered, mount_wish, reach, reach_for};

@@ -20,7 +20,7 @@ fn push_row(list: &mut Vec<Question>, at: usize, row: &Row) -> Result<(), AllocE
     list.push(Question::Path(Wish::Read, at))?;
     match row.kind {
         RowKind::Dir => {}
-        RowKind::File => list.push(Question::Path(Wish::Write, at))?,
+        RowKind::File | RowKind::Dev => list.push(Question::Path(Wish::Write, at))?,
         RowKind::Exe => {
             list.push(Question::Path(Wish::Write, at))?;
             list.push(Question::Path(Wish::Exec, at))?;

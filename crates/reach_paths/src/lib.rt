@@ -14,4 +14,4 @@ mod needs;
 
 pub use covers::is_covered;
 pub use first::{reach, reach_for};
-pub use needs::Need;
+pub use needs::{Need, mount_wish};

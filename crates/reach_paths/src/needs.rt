@@ -1,11 +1,11 @@
 //! What is needed of a mount at which a file of the host is found.
 
 ghost use Rattle.std.specs.Prelude.{◌≡◌};
-ghost use Rattle.kernel_laws.specs.Reach.{fits};
+ghost use Rattle.kernel_laws.specs.Reach.{fits, mount_wish};
 ghost use Rattle.reach_paths.specs.Needs.{allows};
 
-use kernel_laws::Flags;
 use kernel_laws::question_types::Wish;
+use kernel_laws::{Flags, RowKind};
 
 /// What is needed of the mount at which a row is found.
 #[derive(Clone, Copy)]
@@ -16,6 +16,17 @@ pub enum Need {
     Marked,
     /// Programs can be executed, and execve(2) does not look at these (mount(2), MS_NOSUID).
     Unmarked,
+}
+
+/// Returns what a wish for a row of this kind asks of its mount: writing a device asks no more than reading it, because a
+/// read-only mount keeps no device (mount(2)).
+pub fn mount_wish(kind: RowKind, wish: Wish) -> Wish
+    ensures of_the_kind { result ≡ mount_wish kind wish }
+{
+    match (wish, kind) {
+        (Wish::Write, RowKind::Dev) => Wish::Read,
+        _ => wish,
+    }
 }
 
 fn fits(flags: Flags, wish: Wish) -> bool

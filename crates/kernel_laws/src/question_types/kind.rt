@@ -24,8 +24,10 @@ pub enum CallKind {
     AttachesReadOnlyX,
     /// A realtime policy, sched(7).
     SchedulesRealtime,
-    /// A set-id bit of a file that open(2), openat(2) or creat(2) makes.
+    /// A set-id bit of a file that open(2) or openat(2) makes.
     OpensMode,
+    /// A set-id bit of a file that creat(2) makes and opens for writing.
+    CreatesMode,
     /// A realtime policy by sched_setattr(2), which needs CAP_SYS_NICE.
     SetsRealtime,
     /// Another execution domain, personality(2).
