@@ -43,5 +43,5 @@ pub use leads::{RowLeads, reach_by};
 pub use making::ceiling;
 pub use memory::{attaching, refuses_memory};
 pub use passing::PathCalls;
-pub use programs::{can_run, is_barred, runs_plainly};
+pub use programs::{can_run, can_write, is_barred, runs_plainly};
 pub use ruled::{LineRules, can_make_user, can_submit};

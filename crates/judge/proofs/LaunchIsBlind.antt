@@ -71,6 +71,7 @@ NoPath (pay.Sets p e i) = Unit {0}
 NoPath (pay.Ids ids) = Unit {0}
 NoPath (pay.Number number) = Unit {0}
 NoPath (pay.Code bytes) = Unit {0}
+NoPath (pay.Ring request) = ⊥
 
 abbrev NamesNone : LaunchStep → Type 0
 NamesNone (Makes call) = NoPath call.payload
@@ -94,6 +95,7 @@ module _ (site other : Site) where
   none_same (pay.Ids ids) table none = tt
   none_same (pay.Number number) table none = tt
   none_same (pay.Code bytes) table none = tt
+  none_same (pay.Ring request) table none = absurd none
 
   mounted_there : (world : World) (entry : MountStep) (o : Option Process)
       → stepped_by (with_site other world) entry o ≡ with_site other (stepped_by world entry o)
@@ -105,24 +107,24 @@ module _ (site other : Site) where
   mounted_site world entry (Some process) = refl
 
   step_there : (world : World) (step : LaunchStep) → world.site ≡ site → other.user_namespaces ≡ site.user_namespaces
-      → other.systemd ≡ site.systemd → NamesNone step
+      → other.systemd ≡ site.systemd → other.io_uring ≡ site.io_uring → NamesNone step
       → launch_step (with_site other world) step ≡ sited site other (launch_step world step)
-  step_there world (Makes call) at spaces version none = step_sited site other world call at spaces version
+  step_there world (Makes call) at spaces version rings none = step_sited site other world call at spaces version rings
       (λ process lives. none_same call.payload (table_of world process.namespace) none)
-  step_there world (Mounts entry) at spaces version none = ap (λ (v : World). (w.Done 0, v)) (mounted_there world entry (living_of world 1))
+  step_there world (Mounts entry) at spaces version rings none = ap (λ (v : World). (w.Done 0, v)) (mounted_there world entry (living_of world 1))
 
   site_there : (world : World) (step : LaunchStep) → (launch_step world step).1.site ≡ world.site
   site_there world (Makes call) = site_kept world call
   site_there world (Mounts entry) = mounted_site world entry (living_of world 1)
 
   leads_there : (world last : World) (steps : List LaunchStep) → world.site ≡ site → other.user_namespaces ≡ site.user_namespaces
-      → other.systemd ≡ site.systemd
+      → other.systemd ≡ site.systemd → other.io_uring ≡ site.io_uring
       → AllByRecursion NamesNone steps → Leads world steps last
       → Leads (with_site other world) steps (with_site other last) × (last.site ≡ site)
-  leads_there world last [] at spaces version none l = (ap (with_site other) l, ap (λ (v : World). v.site) (sym l) ∙ at)
-  leads_there world last (step ∷ steps) at spaces version none l =
-      let there = step_there world step at spaces version none.0 in
-      let more = leads_there (launch_step world step).1 last steps (site_there world step ∙ at) spaces version none.1 l.1 in
+  leads_there world last [] at spaces version rings none l = (ap (with_site other) l, ap (λ (v : World). v.site) (sym l) ∙ at)
+  leads_there world last (step ∷ steps) at spaces version rings none l =
+      let there = step_there world step at spaces version rings none.0 in
+      let more = leads_there (launch_step world step).1 last steps (site_there world step ∙ at) spaces version rings none.1 l.1 in
       ((subst (λ (out : Reply × World). IsDone out.0) (sym there) l.0, subst (λ (out : Reply × World). Leads out.1 steps (with_site other last)) (sym there) more.0), more.1)
 
 -- ---- the steps before the program
@@ -246,8 +248,8 @@ launch_is_blind folder lines site other wanted plan last steps whole can small k
         let left' = left_behind lines site calls' pushed.codes' plan wanted keeps given.mid parts.mid pushed.at given.after in
         let none = all_appended NamesNone (before_filters lines wanted plan) (filter_steps lines.calls wanted.programs) (all_appended NamesNone (with_unshare lines.calls (mount_steps plan)) (identity_steps lines.calls wanted) (none_plan lines plan) (none_identity lines wanted)) (none_filters lines wanted.programs) in
         let all_none = all_appended NamesNone (with_filters lines wanted plan) (give_up_steps lines.calls wanted) none (none_given lines wanted) in
-        let there = leads_there site other (start_world lines site) parts.mid (before_program lines wanted plan) refl agree.spaces agree.systemd all_none parts.before in
-        let stepped = step_sited site other parts.mid (first_call lines.calls (codes "execve") (0 ∷ 0 ∷ 0 ∷ 0 ∷ 0 ∷ 0 ∷ []) (pay.OnePath wanted.program)) there.1 agree.spaces agree.systemd
+        let there = leads_there site other (start_world lines site) parts.mid (before_program lines wanted plan) refl agree.spaces agree.systemd agree.io_uring all_none parts.before in
+        let stepped = step_sited site other parts.mid (first_call lines.calls (codes "execve") (0 ∷ 0 ∷ 0 ∷ 0 ∷ 0 ∷ 0 ∷ []) (pay.OnePath wanted.program)) there.1 agree.spaces agree.systemd agree.io_uring
         (λ process lives. subst (λ (t : Table). FindsSame site other t wanted.program) (sym (living_solo lines site (IsReady wanted.uid wanted.ambient (left_over lines site calls' wanted)) pushed.codes' plan parts.mid left'.at process lives)) same) in
         let exec : Leads (with_site other parts.mid) (program_steps lines.calls wanted.program) (with_site other last) =
         (subst (λ (out : Reply × World). IsDone out.0) (sym stepped) parts.after.0, ap (λ (out : Reply × World). out.1) stepped ∙ ap (with_site other) parts.after.1) in

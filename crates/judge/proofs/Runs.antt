@@ -10,7 +10,7 @@ use Rattle.ceilings.specs.bpf_code.declared.decision.Decision.TheVariants as dec
 use Rattle.ceilings.specs.call_table.call_names.Known.{mode_place_of, place_of}
 use Rattle.ceilings.specs.call_table.declared.call_names.rule.CallRule.{CallRule}
 use Rattle.ceilings.specs.call_table.declared.call_names.rule.CallRule.TheVariants as known
-use Rattle.ceilings.specs.linux_numbers.Errnos.{ebusy, einval, enotdir, eagain, enospc}
+use Rattle.ceilings.specs.linux_numbers.Errnos.{ebadf, ebusy, einval, enotdir, eagain, enospc}
 use Rattle.ceilings.specs.site_table.declared.row.Row.{Row}
 use Rattle.ceilings.specs.site_table.Table.{Site, row_at}
 use Rattle.ceilings.specs.kern_mounts.Entry.{entry_of}
@@ -27,19 +27,22 @@ use Rattle.ceilings.specs.kernel_model.kern_files.Executing.{exec_answer_in}
 use Rattle.ceilings.specs.kernel_model.kern_files.Looking.{flags_at, see_answer, write_answer, open_answer}
 use Rattle.ceilings.specs.kernel_model.kern_files.MountCall.{ms_bind, ms_rec, ms_remount, ms_remount_bind, target_kind, or_found, hidden_at}
 use Rattle.ceilings.specs.kernel_model.kern_files.MountCall.{kind_found, flags_of, has_other_kind, after_mount, mount_onto, bind_found}
-use Rattle.ceilings.specs.kernel_model.kernel_calls.Calls.{FitsPayload, IsPath}
+use Rattle.ceilings.specs.kernel_model.kernel_calls.Calls.{FitsPayload, FitsRequest, IsPath}
 use Rattle.ceilings.specs.kernel_model.kernel_calls.Operation as d
 use Rattle.ceilings.specs.kernel_model.kernel_calls.Operation.{Operation, operation_by, known_operation, asked_if, asked_by, asked_of, bare, by_path}
-use Rattle.ceilings.specs.kernel_model.kernel_calls.Operation.{by_path_flags, by_paths, by_sets, by_ids, by_number, by_code}
+use Rattle.ceilings.specs.kernel_model.kernel_calls.Operation.{by_path_flags, by_paths, by_sets, by_ids, by_number, by_code, by_request}
 use Rattle.ceilings.specs.kernel_model.kernel_calls.Rules.{rule_at}
 use Rattle.ceilings.specs.kernel_model.kernel_calls.Words.{low_word}
 use Rattle.ceilings.specs.kernel_model.declared.kernel_calls.call.Call.{Call}
 use Rattle.ceilings.specs.kernel_model.declared.kernel_calls.payload.Payload.{Payload}
 use Rattle.ceilings.specs.kernel_model.declared.kernel_calls.payload.Payload.TheVariants as pay
+use Rattle.ceilings.specs.kernel_model.declared.kernel_calls.request.Request.{Request}
+use Rattle.ceilings.specs.kernel_model.declared.kernel_calls.request.Request.TheVariants as ask
 use Rattle.ceilings.specs.kernel_model.declared.kernel_calls.rule.Rule.{Rule}
 use Rattle.ceilings.specs.kernel_model.declared.kernel_calls.rule.Rule.TheVariants as rule
 use Rattle.ceilings.specs.kernel_model.Effects as f
 use Rattle.ceilings.specs.kernel_model.Effects.{Effect, effect_of, looks, creds_effect, table_effect, with_admin, with_own, prctl_effect_of}
+use Rattle.ceilings.specs.kernel_model.Effects.{set_up_effect, request_effect}
 use Rattle.ceilings.specs.kernel_model.Runs.{run, replies}
 use Rattle.ceilings.specs.kernel_model.Step.{most_processes, most_namespaces, step, step_by, decided, answered, applied, child_of, child_in}
 use Rattle.ceilings.specs.kernel_model.Step.{moved_in, has_user_left, decision_of}
@@ -59,6 +62,13 @@ module _ (site other : Site) where
   abbrev pub FindsSame : Table → Path → Type 0
   FindsSame table path = finds (row_at other.rows) table path ≡ finds (row_at site.rows) table path
 
+  -- and so does the path of the request, if it has one
+  abbrev pub RequestSame : Table → Request → Type 0
+  RequestSame table (ask.Stat path) = FindsSame table path
+  RequestSame table (ask.Open path flags) = FindsSame table path
+  RequestSame table (ask.Socket family) = Unit {0}
+  RequestSame table (ask.Mode mode) = Unit {0}
+
   -- and so does each path of the payload
   abbrev pub PayloadSame : Table → Payload → Type 0
   PayloadSame table pay.Nothing = Unit {0}
@@ -69,6 +79,7 @@ module _ (site other : Site) where
   PayloadSame table (pay.Ids ids) = Unit {0}
   PayloadSame table (pay.Number number) = Unit {0}
   PayloadSame table (pay.Code bytes) = Unit {0}
+  PayloadSame table (pay.Ring request) = RequestSame table request
 
   mount_same : (mounts : Mounts) (source target : Path) (flags : ℕ) → FindsSame (steps_of mounts) source
       → FindsSame (steps_of mounts) target → after_mount (row_at other.rows) mounts source target flags
@@ -94,7 +105,7 @@ module _ (site other : Site) where
   abbrev pub sited : Reply × World → Reply × World
   sited out = (out.0, with_site other out.1)
 
-  module _ (world : World) (at_site : world.site ≡ site) (spaces : other.user_namespaces ≡ site.user_namespaces) (version : other.systemd ≡ site.systemd) (pid : ℕ) (process : Process) where
+  module _ (world : World) (at_site : world.site ≡ site) (spaces : other.user_namespaces ≡ site.user_namespaces) (version : other.systemd ≡ site.systemd) (rings : other.io_uring ≡ site.io_uring) (pid : ℕ) (process : Process) where
     abbrev table : Table
     table = table_of world process.namespace
 
@@ -132,7 +143,7 @@ module _ (site other : Site) where
     applied_sited : (effect : Effect) → applied (with_site other world) pid process effect ≡ sited (applied world pid process effect)
     applied_sited (f.Refuse errno) = refl
     applied_sited (f.Answer value) = refl
-    applied_sited (f.SetCreds creds) = refl
+    applied_sited (f.SetCreds value creds) = refl
     applied_sited (f.SetTable new) = refl
     applied_sited (f.Push program) = refl
     applied_sited (f.Child own) =
@@ -190,6 +201,25 @@ module _ (site other : Site) where
     operation_goes operation same = ap (applied (with_site other world) pid process) same
         ∙ applied_sited (effect_of (host_of world) (caller_of world process) operation)
 
+    here : (path : Path) → FindsSame table path → finds (row_at other.rows) table path ≡ finds (row_at world.site.rows) table path
+    here path same = same ∙ ap (λ (s : Site). finds (row_at s.rows) table path) (sym at_site)
+
+    -- a request to a ring comes to the same
+    request_here : (request : Request) → RequestSame table request
+        → request_effect (host_of (with_site other world)) (caller_of world process) request
+        ≡ request_effect (host_of world) (caller_of world process) request
+    request_here (ask.Stat path) same = ap (λ found. looks (see_answer 0 found)) (here path same)
+    request_here (ask.Open path flags) same = ap (λ found. looks (open_answer flags (flags_at table path) found)) (here path same)
+    request_here (ask.Socket family) same = refl
+    request_here (ask.Mode mode) same = refl
+
+    submit_here : (request : Request) → RequestSame table request → Same (d.Submit request)
+    submit_here request same = ap (λ effect. cond process.creds.ring effect (f.Refuse ebadf)) (request_here request same)
+
+    -- both hosts have rings or neither has
+    ring_here : Same d.SetUpRing
+    ring_here = ap (λ rings. set_up_effect rings process.creds) (rings ∙ ap (λ (s : Site). s.io_uring) (sym at_site))
+
     bare_goes : (operation : Operation) → Same operation → (payload : Payload) → Goes (bare operation payload)
     bare_goes operation same pay.Nothing = operation_goes operation same
     bare_goes operation same (pay.OnePath path) = refl
@@ -199,6 +229,7 @@ module _ (site other : Site) where
     bare_goes operation same (pay.Ids ids) = refl
     bare_goes operation same (pay.Number number) = refl
     bare_goes operation same (pay.Code bytes) = refl
+    bare_goes operation same (pay.Ring request) = refl
 
     path_goes : (operation : Path → Operation) → ((path : Path) → FindsSame table path → Same (operation path)) → (payload : Payload)
         → PayloadSame table payload → Goes (by_path operation payload)
@@ -210,6 +241,7 @@ module _ (site other : Site) where
     path_goes operation same (pay.Ids ids) found = refl
     path_goes operation same (pay.Number number) found = refl
     path_goes operation same (pay.Code bytes) found = refl
+    path_goes operation same (pay.Ring request) found = refl
 
     paths_goes : (operation : Path → Path → Operation)
         → ((source target : Path) → FindsSame table source → FindsSame table target → Same (operation source target)) → (payload : Payload)
@@ -222,6 +254,7 @@ module _ (site other : Site) where
     paths_goes operation same (pay.Ids ids) found = refl
     paths_goes operation same (pay.Number number) found = refl
     paths_goes operation same (pay.Code bytes) found = refl
+    paths_goes operation same (pay.Ring request) found = refl
 
     path_flags_goes : (operation : Path → ℕ → Operation) → ((path : Path) (flags : ℕ) → FindsSame table path → Same (operation path flags))
         → (payload : Payload) → PayloadSame table payload → Goes (by_path_flags operation payload)
@@ -233,6 +266,7 @@ module _ (site other : Site) where
     path_flags_goes operation same (pay.Ids ids) found = refl
     path_flags_goes operation same (pay.Number number) found = refl
     path_flags_goes operation same (pay.Code bytes) found = refl
+    path_flags_goes operation same (pay.Ring request) found = refl
 
     sets_goes : (payload : Payload) → Goes (by_sets d.Capset payload)
     sets_goes pay.Nothing = refl
@@ -243,6 +277,7 @@ module _ (site other : Site) where
     sets_goes (pay.Ids ids) = refl
     sets_goes (pay.Number number) = refl
     sets_goes (pay.Code bytes) = refl
+    sets_goes (pay.Ring request) = refl
 
     ids_goes : (payload : Payload) → Goes (by_ids d.Setgroups payload)
     ids_goes pay.Nothing = refl
@@ -253,6 +288,7 @@ module _ (site other : Site) where
     ids_goes (pay.Ids ids) = operation_goes (d.Setgroups ids) refl
     ids_goes (pay.Number number) = refl
     ids_goes (pay.Code bytes) = refl
+    ids_goes (pay.Ring request) = refl
 
     number_goes : (operation : ℕ → Operation) → ((number : ℕ) → Same (operation number)) → (payload : Payload)
         → Goes (by_number operation payload)
@@ -264,6 +300,7 @@ module _ (site other : Site) where
     number_goes operation same (pay.Ids ids) = refl
     number_goes operation same (pay.Number number) = operation_goes (operation number) (same number)
     number_goes operation same (pay.Code bytes) = refl
+    number_goes operation same (pay.Ring request) = refl
 
     code_goes : (op flags : ℕ) (payload : Payload) → Goes (by_code (d.Seccomp op flags) payload)
     code_goes op flags pay.Nothing = refl
@@ -274,9 +311,18 @@ module _ (site other : Site) where
     code_goes op flags (pay.Ids ids) = refl
     code_goes op flags (pay.Number number) = refl
     code_goes op flags (pay.Code bytes) = operation_goes (d.Seccomp op flags bytes) refl
+    code_goes op flags (pay.Ring request) = refl
 
-    here : (path : Path) → FindsSame table path → finds (row_at other.rows) table path ≡ finds (row_at world.site.rows) table path
-    here path same = same ∙ ap (λ (s : Site). finds (row_at s.rows) table path) (sym at_site)
+    request_goes : (payload : Payload) → PayloadSame table payload → Goes (by_request d.Submit payload)
+    request_goes pay.Nothing found = refl
+    request_goes (pay.OnePath path) found = refl
+    request_goes (pay.TwoPaths source target) found = refl
+    request_goes (pay.PathFlags path flags) found = refl
+    request_goes (pay.Sets p e i) found = refl
+    request_goes (pay.Ids ids) found = refl
+    request_goes (pay.Number number) found = refl
+    request_goes (pay.Code bytes) found = refl
+    request_goes (pay.Ring request) found = operation_goes (d.Submit request) (submit_here request found)
 
     mount_here : (flags : ℕ) (source target : Path) → FindsSame table source → FindsSame table target → Same (d.Mount source target flags)
     mount_here flags source target s t =
@@ -300,7 +346,9 @@ module _ (site other : Site) where
         (λ path s. ap (λ found. looks (open_answer (low_word args (place_of at)) (flags_at table path) found)) (here path s)) payload same
     known_goes known.Openat2 args payload same = path_flags_goes (λ path flags. d.Open flags 0 path)
         (λ path flags s. ap (λ found. looks (open_answer flags (flags_at table path) found)) (here path s)) payload same
-    known_goes known.Create args payload same = path_goes d.Create
+    known_goes known.Create args payload same = path_goes (d.Create 0)
+        (λ path s. ap (λ found. looks (write_answer 3 (flags_at table path) found)) (here path s)) payload same
+    known_goes known.CreateWith args payload same = path_goes (d.Create (low_word args 1))
         (λ path s. ap (λ found. looks (write_answer 3 (flags_at table path) found)) (here path s)) payload same
     known_goes known.Truncate args payload same = path_goes d.Truncate
         (λ path s. ap (λ found. looks (write_answer 0 (flags_at table path) found)) (here path s)) payload same
@@ -337,6 +385,8 @@ module _ (site other : Site) where
     known_goes known.Prctl args payload same =
         bare_goes _ (prctl_here (low_word args 0) (low_word args 1) (low_word args 2) (low_word args 3) (low_word args 4)) payload
     known_goes known.Seccomp args payload same = code_goes _ _ payload
+    known_goes known.SetUpRing args payload same = bare_goes _ ring_here payload
+    known_goes known.Submit args payload same = request_goes payload same
 
     rule_goes : (own : Rule) (args : List ℕ) (payload : Payload) → PayloadSame table payload → Goes (operation_by own args payload)
     rule_goes (rule.Known own) args payload same = known_goes own args payload same
@@ -357,14 +407,14 @@ module _ (site other : Site) where
     decided_goes call own same decision.Kill = refl
 
   pub step_sited : (world : World) (call : Call) → world.site ≡ site → other.user_namespaces ≡ site.user_namespaces
-      → other.systemd ≡ site.systemd
+      → other.systemd ≡ site.systemd → other.io_uring ≡ site.io_uring
       → ((process : Process) → living_of world call.pid ≡ Some process → PayloadSame (table_of world process.namespace) call.payload)
       → step (with_site other world) call ≡ sited (step world call)
-  step_sited world call at_site spaces version same = by (living_of world call.pid) refl
+  step_sited world call at_site spaces version rings same = by (living_of world call.pid) refl
     where
       by : (o : Option Process) → living_of world call.pid ≡ o → step_by (with_site other world) call o ≡ sited (step_by world call o)
       by None is = refl
-      by (Some process) is = decided_goes world at_site spaces version call.pid process call refl (same process is) (decision_of world call process)
+      by (Some process) is = decided_goes world at_site spaces version rings call.pid process call refl (same process is) (decision_of world call process)
 
 -- ---- runs
 module _ (folder : Path) (site other : Site) (agree : AgreeOutside folder site other) where
@@ -396,6 +446,15 @@ module _ (folder : Path) (site other : Site) (agree : AgreeOutside folder site o
       by true below = absurd (blind
           (record { pid = pid; process = process; lives = lives; path = path; fits = fit; place = place; shown = shown; below = below }))
 
+  request_same : (world : World) (pid : ℕ) (process : Process) → living_of world pid ≡ Some process → (Exposes folder world → ⊥)
+      → (request : Request) → FitsRequest request → RequestSame site other (table_of world process.namespace) request
+  request_same world pid process lives blind (ask.Stat path) fit =
+      finds_same (table_of world process.namespace) path (not_shown world pid process path lives fit blind)
+  request_same world pid process lives blind (ask.Open path flags) fit =
+      finds_same (table_of world process.namespace) path (not_shown world pid process path lives fit.0 blind)
+  request_same world pid process lives blind (ask.Socket family) fit = tt
+  request_same world pid process lives blind (ask.Mode mode) fit = tt
+
   payload_same : (world : World) (pid : ℕ) (process : Process) → living_of world pid ≡ Some process → (Exposes folder world → ⊥)
       → (payload : Payload) → FitsPayload payload → PayloadSame site other (table_of world process.namespace) payload
   payload_same world pid process lives blind pay.Nothing fit = tt
@@ -409,6 +468,7 @@ module _ (folder : Path) (site other : Site) (agree : AgreeOutside folder site o
   payload_same world pid process lives blind (pay.Ids ids) fit = tt
   payload_same world pid process lives blind (pay.Number number) fit = tt
   payload_same world pid process lives blind (pay.Code bytes) fit = tt
+  payload_same world pid process lives blind (pay.Ring request) fit = request_same world pid process lives blind request fit
 
 -- the site of a world stays
 pub site_kept : (world : World) (call : Call) → (step world call).1.site ≡ world.site
@@ -418,7 +478,7 @@ pub replies_are_blind : RepliesAreBlind
 replies_are_blind folder other world [] agree blind fit = record { replies = refl; runs = refl }
 replies_are_blind folder other world (call ∷ calls) agree blind fit =
     let now : Exposes folder world → ⊥ = blind [] tt in
-    let stepped = step_sited world.site other world call refl agree.spaces agree.systemd (λ process lives. payload_same folder world.site other agree world call.pid process lives now call.payload fit.0.payload) in
+    let stepped = step_sited world.site other world call refl agree.spaces agree.systemd agree.io_uring (λ process lives. payload_same folder world.site other agree world call.pid process lives now call.payload fit.0.payload) in
     let next : World = (step world call).1 in
     let more = replies_are_blind folder other next calls (subst (λ (s : Site). AgreeOutside folder s other) (sym (site_kept world call)) agree) (λ list fits. blind (call ∷ list) (fit.0, fits)) fit.1 in
     record {

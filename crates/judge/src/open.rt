@@ -7,7 +7,7 @@ ghost use Rattle.ceilings.specs.Own.{IsCeilingOf};
 
 use crate::ids::{is_gid_open, is_uid_open};
 use crate::lines::{is_call_open, is_namespace_open, is_realtime_open, is_socket_open, passes};
-use crate::rows::is_path_open;
+use crate::rows::{can_create, is_path_open};
 use ceilings::{Ceiling, attaching, refuses_memory};
 use questions::{CallKind, Question, World};
 
@@ -32,6 +32,7 @@ pub(crate) fn is_open(world: &World<'_>, ceiling: &Ceiling, question: &Question)
             passes(world, ceiling, CallKind::SetsMode)
                 || passes(world, ceiling, CallKind::OpensMode)
                 || ceiling.paths.submit
+                || can_create(world, ceiling)
         }
         Question::Cap(cap) => ceiling.effective.contains(*cap),
         Question::Uid(id) => is_uid_open(ceiling, *id),

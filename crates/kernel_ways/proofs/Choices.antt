@@ -23,6 +23,7 @@ pub data Choice : CallKind → Rule → List ℕ → Type 0 where
   reads_how : Choice (k.ForPath wish_to.Read) (rule.Known known.Openat2) no_words
   opens_how : Choice (k.ForPath wish_to.Write) (rule.Known known.Openat2) no_words
   creates : Choice (k.ForPath wish_to.Write) (rule.Known known.Create) no_words
+  creates_with : Choice (k.ForPath wish_to.Write) (rule.Known known.CreateWith) no_words
   truncates : Choice (k.ForPath wish_to.Write) (rule.Known known.Truncate) no_words
   execs : Choice (k.ForPath wish_to.Exec) (rule.Known known.Execve) no_words
   plain : (number : Option ℕ) → Choice k.PlainCall (rule.Plain number) no_words
@@ -42,6 +43,7 @@ pub data Choice : CallKind → Rule → List ℕ → Type 0 where
   personality : Choice k.TakesPersonality (rule.Known known.Personality) (one_word 0 8)
   mode : (at : Argument) → Choice k.SetsMode (rule.Known (known.SetMode at)) (one_word (place_of at) 0x800)
   opens_mode : (at : Argument) → Choice k.OpensMode (rule.Known (known.OpenWith at)) (made_words at)
+  creates_mode : Choice k.CreatesMode (rule.Known known.CreateWith) (one_word 1 0x800)
   mounts : Choice k.ChangesMounts (rule.Known known.Mount) no_words
   unmounts : Choice k.RemovesMounts (rule.Known known.Umount) no_words
   capset : Choice k.SetsCaps (rule.Known known.Capset) no_words
@@ -52,6 +54,8 @@ pub data Choice : CallKind → Rule → List ℕ → Type 0 where
   setresgid : Choice k.TakesGid (rule.Known known.Setresgid) no_words
   setregid : Choice k.TakesGid (rule.Known known.Setregid) no_words
   setgroups : Choice k.TakesGid (rule.Known known.Setgroups) no_words
+  sets_up_ring : Choice k.SetsUpRing (rule.Known known.SetUpRing) no_words
+  submits : Choice k.Submits (rule.Known known.Submit) no_words
 
 as_asked : {kind : CallKind} {own : Rule} {are args : List ℕ} → Choice kind own are → Some are ≡ Some args → Choice kind own args
 as_asked {kind} {own} choice e = subst (Choice kind own) (cc) choice
@@ -70,6 +74,7 @@ of_words (k.ForPath wish_to.Write) (rule.Known (known.OpenWith at)) args = as_as
 of_words (k.ForPath wish_to.Read) (rule.Known known.Openat2) args = as_asked reads_how
 of_words (k.ForPath wish_to.Write) (rule.Known known.Openat2) args = as_asked opens_how
 of_words (k.ForPath wish_to.Write) (rule.Known known.Create) args = as_asked creates
+of_words (k.ForPath wish_to.Write) (rule.Known known.CreateWith) args = as_asked creates_with
 of_words (k.ForPath wish_to.Write) (rule.Known known.Truncate) args = as_asked truncates
 of_words (k.ForPath wish_to.Exec) (rule.Known known.Execve) args = as_asked execs
 of_words k.PlainCall (rule.Plain number) args = as_asked (plain number)
@@ -88,6 +93,7 @@ of_words k.SetsRealtime (rule.Known known.SetAttributes) args = as_asked sets_at
 of_words k.TakesPersonality (rule.Known known.Personality) args = as_asked personality
 of_words k.SetsMode (rule.Known (known.SetMode at)) args = as_asked (mode at)
 of_words k.OpensMode (rule.Known (known.OpenWith at)) args = as_asked (opens_mode at)
+of_words k.CreatesMode (rule.Known known.CreateWith) args = as_asked creates_mode
 of_words k.ChangesMounts (rule.Known known.Mount) args = as_asked mounts
 of_words k.RemovesMounts (rule.Known known.Umount) args = as_asked unmounts
 of_words k.SetsCaps (rule.Known known.Capset) args = as_asked capset
@@ -98,6 +104,8 @@ of_words k.TakesGid (rule.Known known.Setgid) args = as_asked setgid
 of_words k.TakesGid (rule.Known known.Setresgid) args = as_asked setresgid
 of_words k.TakesGid (rule.Known known.Setregid) args = as_asked setregid
 of_words k.TakesGid (rule.Known known.Setgroups) args = as_asked setgroups
+of_words k.SetsUpRing (rule.Known known.SetUpRing) args = as_asked sets_up_ring
+of_words k.Submits (rule.Known known.Submit) args = as_asked submits
 of_words kind own args = λ e. cc
 
 of_wide : (kind : CallKind) (own : Rule) (args : List ℕ) → wide_words kind own ≡ Some args → Choice kind own args

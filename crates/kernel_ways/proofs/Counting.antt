@@ -15,6 +15,7 @@ use Rattle.launcher.specs.kern_creds.declared.creds.Creds.{Creds}
 use Rattle.launcher.specs.kern_creds.Capset.{after_capset}
 use Rattle.launcher.specs.kern_creds.Prctl.{after_drop_bounding, after_raise, after_lower, after_clear_ambient, after_set_keepcaps}
 use Rattle.launcher.specs.kern_creds.Prctl.{after_set_no_new_privs, after_set_mdwe}
+use Rattle.launcher.specs.kern_creds.Ring.{after_set_up_ring}
 use Rattle.launcher.specs.kern_creds.Setgroups.{after_setgroups}
 use Rattle.launcher.specs.kern_creds.Setresuid.{after_setresuid, after_setresgid}
 use Rattle.launcher.specs.kern_creds.Setuid.{after_setuid, after_setgid}
@@ -39,7 +40,9 @@ use Rattle.launcher.specs.kernel_model.Effects.{first_alone, schedule_answer, so
 use Rattle.launcher.specs.kernel_model.Effects.{no_new_privs_effect, keepcaps_effect, prctl_effect, push_effect, seccomp_effect, effect_of}
 use Rattle.launcher.specs.kernel_model.kern_files.Bits.{has_all}
 use Rattle.launcher.specs.kernel_model.Effects.{socketcall_effect, protect_effect, attach_effect, set_mdwe_effect, prctl_effect_of}
-use Rattle.launcher.specs.kernel_model.Effects.{attributes_effect, sockets_effect, socketpair_effect, no_pair}
+use Rattle.launcher.specs.kernel_model.Effects.{attributes_effect, sockets_effect, socketpair_effect, no_pair, request_effect}
+use Rattle.launcher.specs.kernel_model.declared.kernel_calls.request.Request.{Request}
+use Rattle.launcher.specs.kernel_model.declared.kernel_calls.request.Request.TheVariants as ask
 use Rattle.launcher.specs.kernel_model.MountStep.{with_step, stepped_by}
 use Rattle.launcher.specs.kernel_model.Step.{step}
 use Rattle.launcher.specs.kernel_model.StepCases as case
@@ -60,7 +63,7 @@ use Rattle.launcher.specs.Launch.{capbset_drop, set_no_new_privs, cap_ambient, a
 use Rattle.launcher.specs.Launches.{HasLaunchCalls}
 use Rattle.launcher.proofs.Leading.{Leads, leads_parts}
 use Rattle.launcher.specs.linux_numbers.Capabilities.{cap_sys_admin, cap_last_cap}
-use Rattle.launcher.specs.linux_numbers.Errnos.{eperm, eacces, einval, enomem}
+use Rattle.launcher.specs.linux_numbers.Errnos.{eperm, ebadf, eacces, einval, enomem}
 use Rattle.launcher.specs.linux_numbers.Limits.{max_insns_per_path, no_id}
 use Rattle.launcher.specs.site_table.Table.{Site}
 
@@ -146,7 +149,7 @@ stays_ambient creds op cap' =
     let set : Effect = is_set_effect creds cap' in
     let raise : Effect = creds_effect (after_raise creds cap') in
     let lower : Effect = creds_effect (after_lower creds cap') in
-    let clear : Effect = f.SetCreds (after_clear_ambient creds) in
+    let clear : Effect = f.SetCreds 0 (after_clear_ambient creds) in
     let four : Effect = cond (eqb op 4) clear (f.Refuse einval) in
     let three : Effect = cond (eqb op 3) lower four in
     let two : Effect = cond (eqb op 2) raise three in
@@ -166,9 +169,9 @@ stays_prctl creds option value third =
     let four : Effect = cond (eqb option 24) drop five in
     let three : Effect = cond (eqb option 8) keep four in
     let two : Effect = cond (eqb option 39) marked three in
-    either (eqb option 38) mark two (either (eqb value 1) (f.SetCreds (after_set_no_new_privs creds)) (f.Refuse einval) tt tt)
+    either (eqb option 38) mark two (either (eqb value 1) (f.SetCreds 0 (after_set_no_new_privs creds)) (f.Refuse einval) tt tt)
     (either (eqb option 39) marked three tt
-    (either (eqb option 8) keep four (either (nat_lt value 2) (f.SetCreds (after_set_keepcaps creds (eqb value 1))) (f.Refuse einval) tt tt)
+    (either (eqb option 8) keep four (either (nat_lt value 2) (f.SetCreds 0 (after_set_keepcaps creds (eqb value 1))) (f.Refuse einval) tt tt)
     (either (eqb option 24) drop five (stays_creds (after_drop_bounding creds value))
     (either (eqb option 47) (ambient_effect creds value third) (f.Refuse einval) (stays_ambient creds value third) tt))))
 
@@ -186,7 +189,7 @@ stays_prctl_of mdwe creds option value third fourth fifth =
     stays_set true =
         let clear : Effect = cond creds.mdwe (f.Refuse eperm) (f.Answer 0) in
         let two : Effect = cond (eqb value 0) clear (f.Refuse einval) in
-        either (eqb value 1) (f.SetCreds (after_set_mdwe creds)) two tt
+        either (eqb value 1) (f.SetCreds 0 (after_set_mdwe creds)) two tt
         (either (eqb value 0) clear (f.Refuse einval) (either creds.mdwe (f.Refuse eperm) (f.Answer 0) tt tt) tt)
 
 stays_protect : (creds : Creds) (protection : ℕ) → Stays (protect_effect creds protection)
@@ -204,11 +207,18 @@ stays_seccomp creds stack op flags code =
     (either (not (creds.no_new_privs || has creds.effective cap_sys_admin)) (f.Refuse eacces) pushed tt
     (stays_push stack (program_of code)))
 
+stays_request : (host : Host) (caller : Caller) (request : Request) → Stays (request_effect host caller request)
+stays_request host caller (ask.Stat path) = stays_looks (see_answer 0 (finds host.rows (steps_of caller.table) path))
+stays_request host caller (ask.Open path flags) = stays_looks
+    (open_answer flags (flags_at (steps_of caller.table) path) (finds host.rows (steps_of caller.table) path))
+stays_request host caller (ask.Socket family) = stays_socket caller.newer caller.creds (numbered family host.families)
+stays_request host caller (ask.Mode mode) = tt
+
 effect_stays : (host : Host) (caller : Caller) (operation : Operation) → parts operation ≡ false → Stays (effect_of host caller operation)
 effect_stays host caller (d.See path) e = stays_looks (see_answer 0 (finds host.rows (steps_of caller.table) path))
 effect_stays host caller (d.Open flags mode path) e = stays_looks
     (open_answer flags (flags_at (steps_of caller.table) path) (finds host.rows (steps_of caller.table) path))
-effect_stays host caller (d.Create path) e =
+effect_stays host caller (d.Create mode path) e =
     stays_looks (write_answer 3 (flags_at (steps_of caller.table) path) (finds host.rows (steps_of caller.table) path))
 effect_stays host caller (d.Truncate path) e =
     stays_looks (write_answer 0 (flags_at (steps_of caller.table) path) (finds host.rows (steps_of caller.table) path))
@@ -257,6 +267,9 @@ effect_stays host caller (d.Capset permitted effective inheritable) e =
 effect_stays host caller (d.Prctl option value third fourth fifth) e =
     stays_prctl_of host.mdwe caller.creds option value third fourth fifth
 effect_stays host caller (d.Seccomp op flags code) e = stays_seccomp caller.creds caller.stack op flags code
+effect_stays host caller d.SetUpRing e = either host.rings (f.SetCreds 3 (after_set_up_ring caller.creds)) (f.Refuse eperm) tt tt
+effect_stays host caller (d.Submit request) e =
+    either caller.creds.ring (request_effect host caller request) (f.Refuse ebadf) (stays_request host caller request) tt
 effect_stays host caller (d.Plain cap') e = stays_alone caller.newer cap' caller.creds 0
 
 -- ---- a step
@@ -265,7 +278,7 @@ module _ (world : World) where
       → Stays effect → length out.1.namespaces ≡ length world.namespaces
   effect_count (case.refuses errno) h = refl
   effect_count (case.answers value) h = refl
-  effect_count (case.takes_creds creds) h = refl
+  effect_count (case.takes_creds value creds) h = refl
   effect_count {process = process} (case.takes_table table) h = length-set world.namespaces (process.namespace - 1) (with_other_table (namespace_of world process.namespace) table)
   effect_count (case.takes_program program) h = refl
   effect_count (case.no_process_left own full) h = refl
@@ -289,7 +302,7 @@ module _ (world : World) where
       → length out.1.namespaces ≤ length world.namespaces + 1
   effect_more (case.refuses errno) = omega arith
   effect_more (case.answers value) = omega arith
-  effect_more (case.takes_creds creds) = omega arith
+  effect_more (case.takes_creds value creds) = omega arith
   effect_more {process = process} (case.takes_table table) = let e = length-set world.namespaces (process.namespace - 1) (with_other_table (namespace_of world process.namespace) table) in omega (arith, e)
   effect_more (case.takes_program program) = omega arith
   effect_more (case.no_process_left own full) = omega arith

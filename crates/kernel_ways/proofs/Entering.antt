@@ -43,7 +43,7 @@ module _ (launch : Launch) (creds : Creds) (table : Table) (pid : ℕ) (world : 
   done_by : (at : ℕ) (effect : Effect) → IsDoable effect → IsDone (applied world at own effect).0
   done_by at (f.Refuse errno) h = absurd h
   done_by at (f.Answer value) h = tt
-  done_by at (f.SetCreds now) h = tt
+  done_by at (f.SetCreds value now) h = tt
   done_by at (f.SetTable now) h = tt
   done_by at (f.Push program) h = tt
   done_by at (f.Child false) h = rw e.fewer tt
@@ -71,8 +71,8 @@ module _ (launch : Launch) (creds : Creds) (table : Table) (pid : ℕ) (world : 
 
     comes_to : effect_of (host_of world) (caller_of world own) operation ≡ effect
     comes_to =
-        ap (λ (s : Site). effect_of (record { rows = row_at s.rows; families = world.calls.families; mdwe = has_mdwe s }) (caller_of world own) operation) e.site
-        ∙ ap (λ (c : calls.Table). effect_of (record { rows = row_at launch.site.rows; families = c.families; mdwe = has_mdwe launch.site })
+        ap (λ (s : Site). effect_of (record { rows = row_at s.rows; families = world.calls.families; mdwe = has_mdwe s; rings = s.io_uring }) (caller_of world own) operation) e.site
+        ∙ ap (λ (c : calls.Table). effect_of (record { rows = row_at launch.site.rows; families = c.families; mdwe = has_mdwe launch.site; rings = launch.site.io_uring })
         (caller_of world own) operation) e.calls
         ∙ ap (λ (c : Creds). effect_of (host_at launch)
         (record { creds = c; stack = own.stack; table = mounts_of world own.namespace; newer = is_newer own; owns = owns }) operation) e.has

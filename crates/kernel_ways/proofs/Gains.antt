@@ -134,18 +134,18 @@ module _ (launch : Launch) (l : IsLaunched launch) (o : Offers launch) where
   pub runs_by : (no_suid : Bool) (line : Line launch (ForPath ToExec)) (creds : Creds) (table : Table) (target : Row)
       → creds.bounding ≡ launch.creds.bounding → (r : RunnableBy no_suid launch table target)
       → Makes launch creds table (d.Execve r.found.path) (first_by (place_of line.line) line.args (pay.OnePath r.found.path))
-      (SetCreds (exec_done creds (marks_of target) no_suid))
+      (SetCreds 0 (exec_done creds (marks_of target) no_suid))
   runs_by no_suid line creds table target bounding r =
       let path = r.found.path in
       let admitted : is_refused creds (marks_of target) (flags_at table path).no_suid ≡ false =
       ap (λ b. is_refused creds (marks_of target) b) r.suid ∙ not_refused no_suid creds target bounding r.free in
       let x = exec_path launch creds table path r.found.can_be_named target r.found.is_found r.exe r.found.is_allowed admitted line in
-      let P : Bool → Type 0 = λ b. Makes launch creds table (d.Execve path) (first_by (place_of line.line) line.args (pay.OnePath path)) (SetCreds (exec_done creds (marks_of target) b)) in subst P r.suid x
+      let P : Bool → Type 0 = λ b. Makes launch creds table (d.Execve path) (first_by (place_of line.line) line.args (pay.OnePath path)) (SetCreds 0 (exec_done creds (marks_of target) b)) in subst P r.suid x
 
   pub record RanBy (no_suid : Bool) (creds : Creds) (table : Table) (target : Row) : Type 0 where
     pub call : Call
     pub path : Path
-    pub makes : Makes launch creds table (d.Execve path) call (SetCreds (exec_done creds (marks_of target) no_suid))
+    pub makes : Makes launch creds table (d.Execve path) call (SetCreds 0 (exec_done creds (marks_of target) no_suid))
 
   pub runs : (no_suid : Bool) (creds : Creds) (table : Table) (target : Row) → creds.bounding ≡ launch.creds.bounding
       → RunnableBy no_suid launch table target → RanBy no_suid creds table target

@@ -246,7 +246,7 @@ module _ (launch : Launch) (creds : Creds) (table : Table) (pid : ℕ) (small : 
     after_run = exec_done_in true (entered creds) (marks_of target) (flags_at table path).no_suid
 
     exec_is : creds_effect (exec_answer_in true (entered creds) (flags_at (steps_of (map plain table)) path)
-        (finds (row_at launch.site.rows) (steps_of (map plain table)) path)) ≡ SetCreds after_run
+        (finds (row_at launch.site.rows) (steps_of (map plain table)) path)) ≡ SetCreds 0 after_run
     exec_is = ap (λ (t : Table). creds_effect
         (exec_answer_in true (entered creds) (flags_at t path) (finds (row_at launch.site.rows) t path))) (steps_plain table)
         ∙ ap (λ x. creds_effect (exec_answer_in true (entered creds) (flags_at table path) x)) found
@@ -256,18 +256,18 @@ module _ (launch : Launch) (creds : Creds) (table : Table) (pid : ℕ) (small : 
             → creds_effect (executed_in true (entered creds)
             (cond (not a) (Err eacces)
             (cond b (Err eacces) (Ok (record { file = marks_of target; no_suid = (flags_at table path).no_suid })))))
-            ≡ SetCreds after_run
+            ≡ SetCreds 0 after_run
         by true false g h = ap (λ b. creds_effect (cond {A = Result Creds ℕ} b (Err eperm) (Ok after_run))) not_refused
         by true true g h = cc
         by false b g h = cc
 
     exec_by : {own : Rule} {args : List ℕ} → (nr : CallAt) → IsCallAt nr → rule_there launch nr ≡ Some own → passes_at launch nr args
         → choices.Choice (k.ForPath ToExec) own args → MakesIn launch (entered creds) table pid (d.Execve path)
-        (call_by pid nr args (pay.OnePath path)) (SetCreds after_run)
+        (call_by pid nr args (pay.OnePath path)) (SetCreds 0 after_run)
     exec_by nr n at t choices.execs = make_in nr (rule.Known known.Execve) no_words (pay.OnePath path) (d.Execve path)
-        (SetCreds after_run) n zeros fit at refl t (λ owns. exec_is)
+        (SetCreds 0 after_run) n zeros fit at refl t (λ owns. exec_is)
 
     pub exec_inside : (line : Line launch (k.ForPath ToExec))
         → MakesIn launch (entered creds) table pid (d.Execve path) (call_by pid (place_of line.line) line.args (pay.OnePath path))
-        (SetCreds after_run)
+        (SetCreds 0 after_run)
     exec_inside line = exec_by (place_of line.line) line.number line.at line.through (choice_of line)

@@ -4,6 +4,7 @@ pub mod Lines
 pub mod Rows
 pub mod Operations
 pub mod Performing
+pub mod ByRing
 pub mod Avoiding
 pub mod Privileged
 pub mod Exposing

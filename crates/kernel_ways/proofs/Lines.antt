@@ -62,8 +62,8 @@ pass_is decision.Pass e = refl
 pass_is (decision.Errno errno) e = cc
 pass_is decision.Kill e = cc
 
-pub any_at : (p : CallLine → Bool) (lines : List CallLine) → list_any p lines ≡ true
-    → (at : ℕ) × (line : CallLine) × (slice_get lines at ≡ Some line) × (p line ≡ true)
+pub any_at : {X : Type 0} (p : X → Bool) (lines : List X) → list_any p lines ≡ true
+    → (at : ℕ) × (line : X) × (slice_get lines at ≡ Some line) × (p line ≡ true)
 any_at p [] e = cc
 any_at p (line ∷ lines) e = elim (or_cases (p line) (list_any p lines) e) [
   | inl here ↦ (0, line, refl, here)

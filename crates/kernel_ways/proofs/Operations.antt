@@ -1,17 +1,18 @@
 -- Calls that name a path, and what they come to.
-use Rattle.std.proofs.Common.{◌≡◌, ℕ, Bool, true, false, List, Option, Some, Result, Ok, Err, refl, ap, ◌∙◌, cond, arith, ◌<◌}
-use Rattle.std.specs.Prelude.{◌^◌, not}
+use Rattle.std.proofs.Common.{◌≡◌, ℕ, Bool, true, false, List, Option, Some, Result, Ok, Err, refl, ap, ◌∙◌, sym, cond, arith, ◌<◌}
+use Rattle.std.specs.Prelude.{◌^◌, ◌&&◌, not}
 use Rattle.launcher.specs.abs_path.Paths.{Path}
 use Rattle.launcher.specs.linux_numbers.Errnos.{eacces, eisdir, erofs, eperm}
 use Rattle.launcher.specs.call_table.declared.call_names.rule.Argument.TheVariants as argument
 use Rattle.launcher.specs.call_table.declared.call_names.rule.CallRule.TheVariants as known
 use Rattle.launcher.specs.site_table.declared.row.Row.{Row}
-use Rattle.launcher.specs.site_table.Kinds.{is_dir, is_exe}
+use Rattle.launcher.specs.site_table.Kinds.{is_dev, is_dir, is_exe}
 use Rattle.launcher.specs.site_table.Table.{row_at}
 use Rattle.launcher.specs.kern_creds.declared.creds.Creds.{Creds}
 use Rattle.launcher.specs.kern_creds.Exec.{exec_done, is_refused}
 use Rattle.launcher.specs.kern_mounts.Finds.{row, finds}
 use Rattle.launcher.specs.kern_mounts.Split.{Table}
+use Rattle.launcher.specs.kern_mounts.declared.step.Flags.{Flags}
 use Rattle.launcher.specs.kernel_model.kern_files.Executing.{marks_of, executed, exec_answer}
 use Rattle.launcher.specs.kernel_model.kern_files.Looking.{flags_at, see_answer, write_answer}
 use Rattle.launcher.specs.kernel_model.kernel_calls.Calls.{IsPath}
@@ -25,17 +26,22 @@ use Rattle.launcher.specs.kernel_model.declared.kernel_calls.rule.Rule.TheVarian
 use Rattle.launcher.specs.kernel_model.Effects as f
 use Rattle.launcher.specs.kernel_model.Effects.{Effect, SetCreds, looks, creds_effect, effect_of}
 use Rattle.launcher.specs.kernel_laws.Denied.{path_for}
-use Rattle.launcher.specs.kernel_laws.Kinds.{AreWords, no_words, one_word, path_payload}
+use Rattle.launcher.specs.kernel_laws.Kinds.{AreWords, asks_created_mode, no_words, one_word, path_payload}
 use Rattle.launcher.specs.kernel_laws.Launched.{Launch, passes}
 use Rattle.launcher.specs.kernel_laws.declared.question_types.wish.Wish.{Wish}
 use Rattle.launcher.specs.kernel_laws.declared.question_types.wish.Wish.TheVariants.{See as ToSee, Read as ToRead, Write as ToWrite}
 use Rattle.launcher.specs.kernel_laws.declared.question_types.wish.Wish.TheVariants.{Exec as ToExec}
 use Rattle.launcher.specs.kernel_laws.declared.question_types.kind.CallKind.TheVariants as k
-use Rattle.launcher.specs.kernel_laws.Reach.{fits}
+use Rattle.launcher.specs.kernel_laws.Reach.{fits, mount_wish}
 use Rattle.kernel_ways.specs.Ways.{effect_on, Makes, host_at, caller_at, place_of, CallAt, IsCallAt, rule_there, passes_at}
 use Rattle.kernel_ways.proofs.Choices as choices
 use Rattle.kernel_ways.proofs.Lines.{Line, choice_of, make, six, zeros, first_by}
 use Rattle.kernel_ways.specs.Showing.{IsDoable}
+
+-- what a mount must allow for writing: nothing for a device
+fits_write : (device : Bool) (flags : Flags) → fits (cond device ToRead ToWrite) flags ≡ cond device true (not flags.read_only)
+fits_write true flags = refl
+fits_write false flags = refl
 
 module _ (launch : Launch) (creds : Creds) (table : Table) where
   -- a call by this path, that is done
@@ -113,16 +119,19 @@ module _ (launch : Launch) (creds : Creds) (table : Table) where
         (first_by (place_of line.line) line.args (path_payload ToRead line.own path))
     read_path line = read_by (place_of line.line) line.number line.at line.through (choice_of line)
 
-    module _ (file : is_dir target.kind ≡ false) (writes : fits ToWrite (flags_at table path) ≡ true) where
+    module _ (file : is_dir target.kind ≡ false) (writes : fits (mount_wish target.kind ToWrite) (flags_at table path) ≡ true) where
       pub written : (value : ℕ) → looks (write_answer value (flags_at table path) (finds rows table path)) ≡ f.Answer value
       written value = ap (λ x. looks (write_answer value (flags_at table path) x)) found
-          ∙ by (is_dir target.kind) (flags_at table path).read_only file writes
+          ∙ by (is_dir target.kind) (is_dev target.kind) (flags_at table path).read_only file
+          (sym (fits_write (is_dev target.kind) (flags_at table path)) ∙ writes)
         where
-          by : (a b : Bool) → a ≡ false → not b ≡ true → looks
-              (cond {A = Result ℕ ℕ} a (Err eisdir) (cond {A = Result ℕ ℕ} b (Err erofs) (Ok value))) ≡ f.Answer value
-          by false false g h = refl
-          by false true g h = cc
-          by true b g h = cc
+          by : (a c b : Bool) → a ≡ false → cond c true (not b) ≡ true → looks
+              (cond {A = Result ℕ ℕ} a (Err eisdir) (cond {A = Result ℕ ℕ} (b && not c) (Err erofs) (Ok value))) ≡ f.Answer value
+          by false true true g h = refl
+          by false true false g h = refl
+          by false false false g h = refl
+          by false false true g h = cc
+          by true c b g h = cc
 
       write_by : {own : Rule} {args : List ℕ} → (nr : CallAt) → IsCallAt nr → rule_there launch nr ≡ Some own → passes_at launch nr args
           → choices.Choice (k.ForPath ToWrite) own args → PathCall ToWrite path (first_by nr args (path_payload ToWrite own path))
@@ -139,8 +148,10 @@ module _ (launch : Launch) (creds : Creds) (table : Table) where
           by_path nr (rule.Known (known.OpenWith argument.Third)) (one_word 2 1) (d.Open 1 0 path) 3 ToWrite n
           (six 0 0 1 0 (omega arith) (omega arith) (omega arith) (omega arith)) at t refl refl (written 3)
       write_by nr n at t choices.opens_how = by_how nr 1 3 ToWrite n (omega arith) at t refl (written 3)
-      write_by nr n at t choices.creates = by_path nr (rule.Known known.Create) no_words (d.Create path) 3 ToWrite n zeros at t refl refl
+      write_by nr n at t choices.creates = by_path nr (rule.Known known.Create) no_words (d.Create 0 path) 3 ToWrite n zeros at t refl refl
           (written 3)
+      write_by nr n at t choices.creates_with = by_path nr (rule.Known known.CreateWith) no_words (d.Create 0 path) 3 ToWrite n zeros at t
+          refl refl (written 3)
       write_by nr n at t choices.truncates = by_path nr (rule.Known known.Truncate) no_words
           (d.Truncate path) 0 ToWrite n zeros at t refl refl (written 0)
 
@@ -148,11 +159,27 @@ module _ (launch : Launch) (creds : Creds) (table : Table) where
           → PathCall ToWrite path (first_by (place_of line.line) line.args (path_payload ToWrite line.own path))
       write_path line = write_by (place_of line.line) line.number line.at line.through (choice_of line)
 
+      -- a file with a set-id bit, by creat(2)
+      create_by : {own : Rule} {args : List ℕ} → (nr : CallAt) → IsCallAt nr → rule_there launch nr ≡ Some own → passes_at launch nr args
+          → choices.Choice k.CreatesMode own args → Performed asks_created_mode (first_by nr args (pay.OnePath path))
+      create_by nr n at t choices.creates_mode = record {
+        operation = d.Create 0x800 path;
+        effect = f.Answer 3;
+        makes = make launch creds table nr (rule.Known known.CreateWith) (one_word 1 0x800) (pay.OnePath path) (d.Create 0x800 path)
+            (f.Answer 3) n (six 0 0x800 0 0 (omega arith) (omega arith) (omega arith) (omega arith)) fit at refl t (written 3);
+        doable = tt;
+        such = refl;
+      }
+
+      pub creates_mode : (line : Line launch k.CreatesMode)
+          → Performed asks_created_mode (first_by (place_of line.line) line.args (pay.OnePath path))
+      creates_mode line = create_by (place_of line.line) line.number line.at line.through (choice_of line)
+
     module _ (exe : is_exe target.kind ≡ true) (runs : fits ToExec (flags_at table path) ≡ true) (admitted : is_refused creds (marks_of target) (flags_at table path).no_suid ≡ false) where
       abbrev pub after_run : Creds
       after_run = exec_done creds (marks_of target) (flags_at table path).no_suid
 
-      pub exec_is : creds_effect (exec_answer creds (flags_at table path) (finds rows table path)) ≡ SetCreds after_run
+      pub exec_is : creds_effect (exec_answer creds (flags_at table path) (finds rows table path)) ≡ SetCreds 0 after_run
       exec_is = ap (λ x. creds_effect (exec_answer creds (flags_at table path) x)) found
           ∙ by (is_exe target.kind) (flags_at table path).no_exec exe runs
         where
@@ -160,18 +187,18 @@ module _ (launch : Launch) (creds : Creds) (table : Table) where
               → creds_effect (executed creds
               (cond (not a) (Err eacces)
               (cond b (Err eacces) (Ok (record { file = marks_of target; no_suid = (flags_at table path).no_suid })))))
-              ≡ SetCreds after_run
+              ≡ SetCreds 0 after_run
           by true false g h = ap (λ b. creds_effect (cond {A = Result Creds ℕ} b (Err eperm) (Ok after_run))) admitted
           by true true g h = cc
           by false b g h = cc
 
       exec_by : {own : Rule} {args : List ℕ} → (nr : CallAt) → IsCallAt nr → rule_there launch nr ≡ Some own → passes_at launch nr args
           → choices.Choice (k.ForPath ToExec) own args → Makes launch creds table (d.Execve path) (first_by nr args (pay.OnePath path))
-          (SetCreds after_run)
+          (SetCreds 0 after_run)
       exec_by nr n at t choices.execs = make launch creds table nr (rule.Known known.Execve) no_words (pay.OnePath path) (d.Execve path)
-          (SetCreds after_run) n zeros fit at refl t exec_is
+          (SetCreds 0 after_run) n zeros fit at refl t exec_is
 
       -- its call
       pub exec_path : (line : Line launch (k.ForPath ToExec))
-          → Makes launch creds table (d.Execve path) (first_by (place_of line.line) line.args (pay.OnePath path)) (SetCreds after_run)
+          → Makes launch creds table (d.Execve path) (first_by (place_of line.line) line.args (pay.OnePath path)) (SetCreds 0 after_run)
       exec_path line = exec_by (place_of line.line) line.number line.at line.through (choice_of line)

@@ -34,7 +34,7 @@ use Rattle.launcher.specs.kernel_laws.declared.question_types.kind.CallKind.TheV
 use Rattle.launcher.specs.linux_numbers.declared.namespaces.NamespaceType.TheVariants as namespace
 use Rattle.launcher.specs.kernel_laws.Kinds as k
 use Rattle.launcher.specs.kernel_laws.Kinds.{AreWords, asks_attach_read, asks_attributes, asks_plain, asks_schedule, family_payload, no_words, one_word}
-use Rattle.launcher.specs.kernel_laws.Kinds.{asks_made_mode, asks_set_mode, made_words, realtime_payload, space_payload}
+use Rattle.launcher.specs.kernel_laws.Kinds.{asks_created_mode, asks_made_mode, asks_set_mode, made_words, realtime_payload, space_payload}
 use Rattle.launcher.specs.kernel_laws.Launched.{Launch, passes}
 use Rattle.launcher.specs.linux_numbers.Namespaces.{flag_of}
 use Rattle.kernel_ways.specs.Ways.{effect_on, host_at, caller_at, CallAt, IsCallAt, rule_there, passes_at, place_of}
@@ -48,7 +48,7 @@ abbrev pub CapAtHand : Creds → Option ℕ → Type 0
 CapAtHand creds None = Unit {0}
 CapAtHand creds (Some number) = has creds.effective number ≡ true
 
-cap_lets : (creds : Creds) (o : Option ℕ) (effect : Effect) → CapAtHand creds o → with_cap_of o creds effect ≡ effect
+pub cap_lets : (creds : Creds) (o : Option ℕ) (effect : Effect) → CapAtHand creds o → with_cap_of o creds effect ≡ effect
 cap_lets creds None effect h = refl
 cap_lets creds (Some number) effect h = ap (λ b. cond b effect (f.Refuse eperm)) h
 
@@ -61,6 +61,10 @@ read_attaches operation e = cc
 pub sets_mode : (operation : Operation) → asks_set_mode operation ≡ true → asks_mode operation ≡ true
 sets_mode (d.SetMode mode) e = e
 sets_mode operation e = cc
+
+pub created_bit : (operation : Operation) → asks_created_mode operation ≡ true → asks_mode operation ≡ true
+created_bit (d.Create mode path) e = e
+created_bit operation e = cc
 
 pub makes_bit : (operation : Operation) → asks_made_mode operation ≡ true → asks_mode operation ≡ true
 makes_bit (d.Open flags mode path) e = e

@@ -64,13 +64,13 @@ module _ (launch : Launch) (o : Offers launch) (creds : Creds) (table : Table) w
 
   pub record CredsCall (spares : Bool) (now : Creds) (call : Call) : Type 0 where
     pub operation : Operation
-    pub makes : Makes launch creds table operation call (SetCreds now)
+    pub makes : Makes launch creds table operation call (SetCreds 0 now)
     pub no_uid : spares ≡ true → asks k.TakesUid operation ≡ false
     pub no_gid : asks k.TakesGid operation ≡ false
 
   pub record GroupCall (now : Creds) (call : Call) : Type 0 where
     pub operation : Operation
-    pub makes : Makes launch creds table operation call (SetCreds now)
+    pub makes : Makes launch creds table operation call (SetCreds 0 now)
 
   -- other words of a call that no filter looks at
   pub other : (nr : CallAt) (own : Rule) (args : List ℕ) → IsCallAt nr → AreWords args → rule_there launch nr ≡ Some own
@@ -139,7 +139,7 @@ module _ (launch : Launch) (o : Offers launch) (creds : Creds) (table : Table) w
   capset_by nr n at t choices.capset p e i hp he hi may = record {
     operation = d.Capset p e i;
     makes = make launch creds table nr (rule.Known known.Capset) no_words (pay.Sets p e i) (d.Capset p e i)
-        (SetCreds (with_sets creds p e i)) n zeros (hp, he, hi) at refl t
+        (SetCreds 0 (with_sets creds p e i)) n zeros (hp, he, hi) at refl t
         (ap (λ b. creds_effect (cond {A = Result Creds ℕ} b (Ok (with_sets creds p e i)) (Err 1))) may);
     no_uid = λ e. refl;
     no_gid = refl;
@@ -162,7 +162,7 @@ module _ (launch : Launch) (o : Offers launch) (creds : Creds) (table : Table) w
         record {
           operation = d.Setuid id;
           makes = make launch creds table nr (rule.Known known.Setuid) (id ∷ 0 ∷ 0 ∷ 0 ∷ 0 ∷ 0 ∷ []) pay.Nothing (d.Setuid id)
-              (SetCreds (with_uids creds (all_of id))) n w tt at (ap (λ w. Some (d.Setuid w)) (low id word))
+              (SetCreds 0 (with_uids creds (all_of id))) n w tt at (ap (λ w. Some (d.Setuid w)) (low id word))
               (other nr (rule.Known known.Setuid) (id ∷ 0 ∷ 0 ∷ 0 ∷ 0 ∷ 0 ∷ []) n w at refl t) (rw (not_none id small, h) refl);
           no_uid = λ e. cc;
           no_gid = refl;
@@ -172,7 +172,7 @@ module _ (launch : Launch) (o : Offers launch) (creds : Creds) (table : Table) w
         record {
           operation = d.Setresuid id id id;
           makes = make launch creds table nr (rule.Known known.Setresuid) (id ∷ id ∷ id ∷ 0 ∷ 0 ∷ 0 ∷ []) pay.Nothing
-              (d.Setresuid id id id) (SetCreds (with_uids creds (all_of id))) n w tt at (ap (λ w. Some (d.Setresuid w w w)) (low id word))
+              (d.Setresuid id id id) (SetCreds 0 (with_uids creds (all_of id))) n w tt at (ap (λ w. Some (d.Setresuid w w w)) (low id word))
               (other nr (rule.Known known.Setresuid) (id ∷ id ∷ id ∷ 0 ∷ 0 ∷ 0 ∷ []) n w at refl t) (rw (not_none id small, h) refl);
           no_uid = λ e. cc;
           no_gid = refl;
@@ -182,7 +182,7 @@ module _ (launch : Launch) (o : Offers launch) (creds : Creds) (table : Table) w
         record {
           operation = d.Setresuid id id no_id;
           makes = make launch creds table nr (rule.Known known.Setreuid) (id ∷ id ∷ 0 ∷ 0 ∷ 0 ∷ 0 ∷ []) pay.Nothing
-              (d.Setresuid id id no_id) (SetCreds (with_uids creds (ids_by (rule.Known known.Setreuid) creds.uids id))) n w tt at
+              (d.Setresuid id id no_id) (SetCreds 0 (with_uids creds (ids_by (rule.Known known.Setreuid) creds.uids id))) n w tt at
               (ap (λ w. Some (d.Setresuid w w no_id)) (low id word))
               (other nr (rule.Known known.Setreuid) (id ∷ id ∷ 0 ∷ 0 ∷ 0 ∷ 0 ∷ []) n w at refl t) (rw (not_none id small, h) refl);
           no_uid = λ e. cc;
@@ -207,7 +207,7 @@ module _ (launch : Launch) (o : Offers launch) (creds : Creds) (table : Table) w
           change = record {
             operation = d.Setgid id;
             makes = make launch creds table nr (rule.Known known.Setgid) (id ∷ 0 ∷ 0 ∷ 0 ∷ 0 ∷ 0 ∷ []) pay.Nothing (d.Setgid id)
-                (SetCreds (record creds { gids = all_of id })) n w tt at (ap (λ w. Some (d.Setgid w)) (low id word))
+                (SetCreds 0 (record creds { gids = all_of id })) n w tt at (ap (λ w. Some (d.Setgid w)) (low id word))
                 (other nr (rule.Known known.Setgid) (id ∷ 0 ∷ 0 ∷ 0 ∷ 0 ∷ 0 ∷ []) n w at refl t) (rw (not_none id small, h) refl);
           };
           has_gid = inl refl;
@@ -219,7 +219,7 @@ module _ (launch : Launch) (o : Offers launch) (creds : Creds) (table : Table) w
           change = record {
             operation = d.Setresgid id id id;
             makes = make launch creds table nr (rule.Known known.Setresgid) (id ∷ id ∷ id ∷ 0 ∷ 0 ∷ 0 ∷ []) pay.Nothing
-                (d.Setresgid id id id) (SetCreds (record creds { gids = all_of id })) n w tt at
+                (d.Setresgid id id id) (SetCreds 0 (record creds { gids = all_of id })) n w tt at
                 (ap (λ w. Some (d.Setresgid w w w)) (low id word))
                 (other nr (rule.Known known.Setresgid) (id ∷ id ∷ id ∷ 0 ∷ 0 ∷ 0 ∷ []) n w at refl t) (rw (not_none id small, h) refl);
           };
@@ -233,7 +233,7 @@ module _ (launch : Launch) (o : Offers launch) (creds : Creds) (table : Table) w
           change = record {
             operation = d.Setresgid id id no_id;
             makes = make launch creds table nr (rule.Known known.Setregid) (id ∷ id ∷ 0 ∷ 0 ∷ 0 ∷ 0 ∷ []) pay.Nothing
-                (d.Setresgid id id no_id) (SetCreds (record creds { gids = ids })) n w tt at
+                (d.Setresgid id id no_id) (SetCreds 0 (record creds { gids = ids })) n w tt at
                 (ap (λ w. Some (d.Setresgid w w no_id)) (low id word))
                 (other nr (rule.Known known.Setregid) (id ∷ id ∷ 0 ∷ 0 ∷ 0 ∷ 0 ∷ []) n w at refl t) (rw (not_none id small, h) refl);
           };
@@ -245,7 +245,7 @@ module _ (launch : Launch) (o : Offers launch) (creds : Creds) (table : Table) w
           change = record {
             operation = d.Setgroups (id ∷ []);
             makes = make launch creds table nr (rule.Known known.Setgroups) no_words (pay.Ids (id ∷ [])) (d.Setgroups (id ∷ []))
-                (SetCreds (record creds { groups = id ∷ [] })) n zeros (word, tt) at refl t (rw h refl);
+                (SetCreds 0 (record creds { groups = id ∷ [] })) n zeros (word, tt) at refl t (rw h refl);
           };
           has_gid = inr (or_left (eqb id id) false (eq-eqb id id refl));
         }

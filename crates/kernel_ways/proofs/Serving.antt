@@ -109,7 +109,7 @@ module _ (table : calls.Table) (site : Site) where
       pub exe : is_exe program.kind ≡ true
       pub leave : flags.no_exec ≡ false
       pub after : Creds
-      pub becomes : creds_effect (exec_answer creds flags found) ≡ SetCreds after
+      pub becomes : creds_effect (exec_answer creds flags found) ≡ SetCreds 0 after
       pub bounding : after.bounding ≡ creds.bounding
 
     abbrev after_of : Flags → Row → Creds
@@ -178,7 +178,7 @@ module _ (table : calls.Table) (site : Site) where
         ∙ ap (λ (t : Table). applied own 1 process (creds_effect (exec_answer at.creds (flags_at t program) (finds (row_at site.rows) t program)))) same in
         let done' = subst (λ (out : Reply × World). IsDone out.0) stepped done in
         let ran' = ran at.creds stack at.namespace at.spaces (flags_at plan program) (finds (row_at site.rows) plan program) done' in
-        let now : step own exec_call ≡ applied own 1 process (SetCreds ran'.after) = stepped ∙ ap (applied own 1 process) ran'.becomes in
+        let now : step own exec_call ≡ applied own 1 process (SetCreds 0 ran'.after) = stepped ∙ ap (applied own 1 process) ran'.becomes in
         let last_is : last ≡ solo table site ran'.after stack at.namespace at.spaces = sym l.1 ∙ ap (λ (v : World). (step v exec_call).1) at.is ∙ ap (λ (out : Reply × World). out.1) now in
         let shown : launch_of (solo table site ran'.after stack at.namespace at.spaces) ≡ launched_with ran'.after stack =
         ap (λ (t : Table). record { calls = table; site = site; creds = ran'.after; stack = stack; table = t }) (own_table table site ran'.after stack at.namespace at.spaces plan at.own) in

@@ -15,10 +15,10 @@ use Rattle.launcher.specs.kern_creds.declared.creds.Creds.{Creds}
 use Rattle.launcher.specs.kern_creds.Exec.{exec_done, is_refused}
 use Rattle.launcher.specs.kern_mounts.Finds.{row, finds}
 use Rattle.launcher.specs.kernel_laws.Bound.{is_barred, is_to_exec, is_user, can_reach, can_have_cap, can_have_for, if_listed, runs_plainly}
-use Rattle.launcher.specs.kernel_laws.Bound.{power_of, ceiling, is_open, is_call_open}
+use Rattle.launcher.specs.kernel_laws.Bound.{can_ask, can_create, can_make_socket, can_write, power_of, ceiling, is_open, is_call_open}
 use Rattle.launcher.specs.kernel_model.declared.kernel_calls.call.Call.{Call}
 use Rattle.launcher.specs.kernel_model.kernel_calls.Calls.{IsPath}
-use Rattle.launcher.specs.kernel_laws.Denied.{asks_space, asks_family, is_family}
+use Rattle.launcher.specs.kernel_laws.Denied.{asks_space, asks_family, asks_mode, is_family}
 use Rattle.launcher.specs.kernel_model.kernel_calls.Operation as d
 use Rattle.launcher.specs.kernel_model.declared.kernel_calls.payload.Payload.TheVariants as pay
 use Rattle.launcher.specs.kernel_model.kernel_calls.Operation.{Operation}
@@ -35,11 +35,11 @@ use Rattle.launcher.specs.kernel_laws.declared.question_types.question.Question.
 use Rattle.launcher.specs.kernel_laws.declared.question_types.kind.CallKind.TheVariants as kinds
 use Rattle.launcher.specs.linux_numbers.declared.namespaces.NamespaceType.TheVariants as namespace
 use Rattle.launcher.specs.kernel_laws.declared.question_types.question.Question.TheVariants as asking
-use Rattle.launcher.specs.kernel_laws.Launched.{Launch, IsLaunched, launch_of, lets, lets_line, can_make_user}
+use Rattle.launcher.specs.kernel_laws.Launched.{Launch, IsLaunched, launch_of, lets, lets_line, can_make_user, can_submit}
 use Rattle.launcher.specs.site_table.Kinds.{is_dir, is_exe}
 use Rattle.launcher.specs.kern_mounts.Split.{Table}
 use Rattle.reach_paths.specs.Finding.{FindsRow}
-use Rattle.launcher.specs.kernel_laws.Reach.{fits, reaches, reaches_with, runs_unmarked}
+use Rattle.launcher.specs.kernel_laws.Reach.{fits, mount_wish, reaches, reaches_with, runs_unmarked}
 use Rattle.launcher.specs.kern_mounts.declared.step.Flags.{Flags}
 use Rattle.reach_paths.specs.Needs.{allows}
 use Rattle.reach_paths.specs.declared.needs.Need.{Need}
@@ -54,10 +54,12 @@ use Rattle.kernel_ways.specs.Showing.{Answers}
 use Rattle.kernel_ways.specs.Ways.{place_of, Way, here, IsSolo}
 use Rattle.kernel_ways.proofs.Solo.{way_join}
 use Rattle.kernel_ways.proofs.Lines.{same_rule, Line, first_by, low_number, some_line, line_at, any_at, of_abi}
-use Rattle.kernel_ways.proofs.Operations.{PathCall, Performed, see_path, read_path, write_path, exec_path}
+use Rattle.kernel_ways.proofs.Operations.{PathCall, Performed, creates_mode, see_path, read_path, write_path, exec_path}
+use Rattle.kernel_ways.proofs.ByRing.{Ringing, mode_asked, read_asked, ring_behind, ringing, see_asked, socket_asked, write_asked}
+use Rattle.launcher.specs.kernel_model.declared.kernel_calls.request.Request.TheVariants as ask
 use Rattle.kernel_ways.proofs.Performing as performing
 use Rattle.std.proofs.Common.{cond}
-use Rattle.kernel_ways.proofs.Performing.{CapAtHand, is_free, makes_bit, read_attaches, schedules, sets_mode, sets_realtime}
+use Rattle.kernel_ways.proofs.Performing.{CapAtHand, created_bit, is_free, makes_bit, read_attaches, schedules, sets_mode, sets_realtime}
 use Rattle.kernel_ways.proofs.Rows.{IsKnown, known_at}
 use Rattle.kernel_ways.proofs.Exposing.{exposed}
 use Rattle.kernel_ways.proofs.Attained.{Gained, attained}
@@ -77,6 +79,11 @@ at_place P [] at x all e = cc
 at_place P (y ∷ xs) zero x all e = let same : y ≡ x = cc in subst P same all.0
 at_place P (y ∷ xs) (suc at) x all e = at_place P xs at x all.1 e
 
+-- no request executes a file
+without_ring : (passes submits : Bool) → (passes || (false && submits)) ≡ true → passes ≡ true
+without_ring true submits e = refl
+without_ring false submits e = e
+
 module _ (world : World) (launch : Launch) (l : IsLaunched launch) (o : Offers launch) (s : IsSolo launch launch.creds launch.table world) where
   -- ---- rows
   by_path : (wish : Wish) (place : ℕ) (target : Row) → slice_get launch.site.rows place ≡ Some target → {calls : List Call}
@@ -92,7 +99,7 @@ module _ (world : World) (launch : Launch) (l : IsLaunched launch) (o : Offers l
       → PathCall launch creds now ToExec path (first_by (place_of line.line) line.args (pay.OnePath path))
   exec_call creds now path fit target found exe runs admitted line =
       let x = exec_path launch creds now path fit target found exe runs admitted line in
-      record { operation = d.Execve path; effect = SetCreds (exec_done creds (marks_of target) (flags_at now path).no_suid); makes = x; doable = tt; wanted = refl }
+      record { operation = d.Execve path; effect = SetCreds 0 (exec_done creds (marks_of target) (flags_at now path).no_suid); makes = x; doable = tt; wanted = refl }
 
   -- from the launch to the row at the launch's power
   module _ (place : ℕ) (target : Row) (listed : slice_get launch.site.rows place ≡ Some target) where
@@ -119,24 +126,41 @@ module _ (world : World) (launch : Launch) (l : IsLaunched launch) (o : Offers l
         let x = exposed launch l o p.creds target own_known (allows need) (can_be_remounted need) (power_of launch) p.at_hand e in
         record { calls = p.calls ++ x.calls; creds = p.creds; now = x.now; way = way_join p.way x.way; basis = p.basis; found = x.found }
 
-    shown_see : lets launch (kinds.ForPath ToSee) ≡ true → Led (fits ToSee) → IsShown world (asking.Path ToSee place)
-    shown_see passes x =
-        by_path ToSee place target listed x.creds x.now x.way x.found.path x.found.is_found
-        (see_path launch x.creds x.now x.found.path x.found.can_be_named target x.found.is_found
-        (some_line launch l (kinds.ForPath ToSee) passes))
+    -- by a call, or by a ring that is set up behind the way
+    shown_see : can_ask launch ToSee ≡ true → Led (fits ToSee) → IsShown world (asking.Path ToSee place)
+    shown_see asks x = elim (or_cases (lets launch (kinds.ForPath ToSee)) (can_submit launch) asks) [
+      | inl passes ↦ by_path ToSee place target listed x.creds x.now x.way x.found.path x.found.is_found
+          (see_path launch x.creds x.now x.found.path x.found.can_be_named target x.found.is_found
+          (some_line launch l (kinds.ForPath ToSee) passes))
+      | inr can ↦ (
+          let r = ringing launch l can in
+          by_path ToSee place target listed _ x.now (ring_behind launch launch.creds x.creds launch.table x.now x.calls x.way r) x.found.path
+          x.found.is_found (see_asked launch x.creds x.now x.found.path x.found.can_be_named target x.found.is_found r))
+    ]
 
-    shown_read : lets launch (kinds.ForPath ToRead) ≡ true → Led (fits ToRead) → IsShown world (asking.Path ToRead place)
-    shown_read passes x =
-        by_path ToRead place target listed x.creds x.now x.way x.found.path x.found.is_found
-        (read_path launch x.creds x.now x.found.path x.found.can_be_named target x.found.is_found
-        (some_line launch l (kinds.ForPath ToRead) passes))
+    shown_read : can_ask launch ToRead ≡ true → Led (fits ToRead) → IsShown world (asking.Path ToRead place)
+    shown_read asks x = elim (or_cases (lets launch (kinds.ForPath ToRead)) (can_submit launch) asks) [
+      | inl passes ↦ by_path ToRead place target listed x.creds x.now x.way x.found.path x.found.is_found
+          (read_path launch x.creds x.now x.found.path x.found.can_be_named target x.found.is_found
+          (some_line launch l (kinds.ForPath ToRead) passes))
+      | inr can ↦ (
+          let r = ringing launch l can in
+          by_path ToRead place target listed _ x.now (ring_behind launch launch.creds x.creds launch.table x.now x.calls x.way r) x.found.path
+          x.found.is_found (read_asked launch x.creds x.now x.found.path x.found.can_be_named target x.found.is_found r))
+    ]
 
-    shown_write : lets launch (kinds.ForPath ToWrite) ≡ true → is_dir target.kind ≡ false → Led (fits ToWrite)
+    shown_write : can_ask launch ToWrite ≡ true → is_dir target.kind ≡ false → Led (fits (mount_wish target.kind ToWrite))
         → IsShown world (asking.Path ToWrite place)
-    shown_write passes file x =
-        by_path ToWrite place target listed x.creds x.now x.way x.found.path x.found.is_found
-        (write_path launch x.creds x.now x.found.path x.found.can_be_named target x.found.is_found file x.found.is_allowed
-        (some_line launch l (kinds.ForPath ToWrite) passes))
+    shown_write asks file x = elim (or_cases (lets launch (kinds.ForPath ToWrite)) (can_submit launch) asks) [
+      | inl passes ↦ by_path ToWrite place target listed x.creds x.now x.way x.found.path x.found.is_found
+          (write_path launch x.creds x.now x.found.path x.found.can_be_named target x.found.is_found file x.found.is_allowed
+          (some_line launch l (kinds.ForPath ToWrite) passes))
+      | inr can ↦ (
+          let r = ringing launch l can in
+          by_path ToWrite place target listed _ x.now (ring_behind launch launch.creds x.creds launch.table x.now x.calls x.way r) x.found.path
+          x.found.is_found
+          (write_asked launch x.creds x.now x.found.path x.found.can_be_named target x.found.is_found file x.found.is_allowed r))
+    ]
 
     shown_exec : lets launch (kinds.ForPath ToExec) ≡ true → is_exe target.kind ≡ true → is_barred launch target ≡ false → Led (fits ToExec)
         → IsShown world (asking.Path ToExec place)
@@ -168,19 +192,19 @@ module _ (world : World) (launch : Launch) (l : IsLaunched launch) (o : Offers l
         (_, calls_show_inside launch launch.creds x.creds launch.table x.now world x.calls (asking.Path ToExec place) first.pid _ _ (d.Execve x.found.path) _ s x.way first.makes.fit first.inside m tt (x.found.path, target, refl, listed, x.found.is_found))
 
     can_parts : (wish : Wish) → can_reach launch (power_of launch) wish target ≡ true
-        → (lets launch (kinds.ForPath wish) ≡ true) × (reaches (power_of launch) launch.table target.path wish ≡ true) ×
+        → (can_ask launch wish ≡ true) × (reaches (power_of launch) launch.table target.path (mount_wish target.kind wish) ≡ true) ×
         ((((is_to_exec wish && is_barred launch target) && not (runs_plainly launch (power_of launch) target)) && not (can_make_user launch)) ≡ false)
     can_parts wish e =
-        let both = and_parts (lets launch (kinds.ForPath wish) && reaches (power_of launch) launch.table target.path wish) (not (((is_to_exec wish && is_barred launch target) && not (runs_plainly launch (power_of launch) target)) && not (can_make_user launch))) e in
-        let inner = and_parts (lets launch (kinds.ForPath wish)) (reaches (power_of launch) launch.table target.path wish) both.0 in
+        let both = and_parts (can_ask launch wish && reaches (power_of launch) launch.table target.path (mount_wish target.kind wish)) (not (((is_to_exec wish && is_barred launch target) && not (runs_plainly launch (power_of launch) target)) && not (can_make_user launch))) e in
+        let inner = and_parts (can_ask launch wish) (reaches (power_of launch) launch.table target.path (mount_wish target.kind wish)) both.0 in
         (inner.0, inner.1, not-true (((is_to_exec wish && is_barred launch target) && not (runs_plainly launch (power_of launch) target)) && not (can_make_user launch)) both.1)
 
     pub shown_row : (wish : Wish) → IsFit launch.site (asking.Path wish place) → can_reach launch (power_of launch) wish target ≡ true
         → IsShown world (asking.Path wish place)
     shown_row ToSee fit e = let p = can_parts ToSee e in shown_see p.0 (led (ForWish ToSee) p.1)
     shown_row ToRead fit e = let p = can_parts ToRead e in shown_read p.0 (led (ForWish ToRead) p.1)
-    shown_row ToWrite fit e = let p = can_parts ToWrite e in shown_write p.0 (fit target listed) (led (ForWish ToWrite) p.1)
-    shown_row ToExec fit e = let p = can_parts ToExec e in by p.0 p.1 (is_barred launch target) refl (runs_plainly launch (power_of launch) target) refl (can_make_user launch) refl p.2
+    shown_row ToWrite fit e = let p = can_parts ToWrite e in shown_write p.0 (fit target listed) (led (ForWish (mount_wish target.kind ToWrite)) p.1)
+    shown_row ToExec fit e = let p = can_parts ToExec e in by (without_ring (lets launch (kinds.ForPath ToExec)) (can_submit launch) p.0) p.1 (is_barred launch target) refl (runs_plainly launch (power_of launch) target) refl (can_make_user launch) refl p.2
       where
         by : lets launch (kinds.ForPath ToExec) ≡ true → reaches (power_of launch) launch.table target.path ToExec ≡ true → (b : Bool)
             → is_barred launch target ≡ b → (plain : Bool) → runs_plainly launch (power_of launch) target ≡ plain
@@ -260,15 +284,23 @@ module _ (world : World) (launch : Launch) (l : IsLaunched launch) (o : Offers l
       by_performed (asking.Call place) k.asks_plain w.creds w.now w.way x (line, listed, other.1, called, name)
 
   shown_socket : (place : ℕ) (line : CallLine) → slice_get launch.calls.families place ≡ Some line
-      → lets launch (kinds.ForFamily line.number) ≡ true → can_have_cap (ceiling launch) line.cap ≡ true
+      → can_make_socket launch line.number ≡ true → can_have_cap (ceiling launch) line.cap ≡ true
       → IsShown world (asking.Socket place)
   shown_socket place line listed e h =
       let w = having line.cap h in
       let found : numbered line.number launch.calls.families ≡ Some line = at_position launch.calls.families line.number place line (l.families_once place line listed) listed in
       let p : Operation → Bool = asks_family launch.calls.families place in
       let such : p (d.Socket line.number) ≡ true = ap (λ (c : Option CallLine). is_family c line.number) listed ∙ eq-eqb line.number line.number refl in
-      let x = performing.socket launch w.creds w.now line (low_number launch.calls.families o.calls.families.in_range place line listed) (some_line launch l (kinds.ForFamily line.number) e) found w.can p such such (λ is. ap (λ b. b && p (d.Socket line.number)) is ∙ such) in
-      by_performed (asking.Socket place) p w.creds w.now w.way x x.such
+      let small = low_number launch.calls.families o.calls.families.in_range place line listed in
+      elim (or_cases (lets launch (kinds.ForFamily line.number)) (can_submit launch) e) [
+        | inl passes ↦ (
+            let x = performing.socket launch w.creds w.now line small (some_line launch l (kinds.ForFamily line.number) passes) found w.can p such such (λ is. ap (λ b. b && p (d.Socket line.number)) is ∙ such) in
+            by_performed (asking.Socket place) p w.creds w.now w.way x x.such)
+        | inr can ↦ (
+            let r = ringing launch l can in
+            let x = socket_asked launch w.creds w.now line small found w.can p such r in
+            by_performed (asking.Socket place) p _ w.now (ring_behind launch launch.creds w.creds launch.table w.now w.calls w.way r) x x.such)
+      ]
 
   -- ---- each question
   listed_is : {X : Type 0} (p : X → Bool) (c : Option X) → if_listed p c ≡ true → (x : X) × (c ≡ Some x) × (p x ≡ true)
@@ -328,11 +360,38 @@ module _ (world : World) (launch : Launch) (l : IsLaunched launch) (o : Offers l
       let x = performing.makes_mode launch launch.creds launch.table p.path p.can_be_named o.program.program p.is_found (some_line launch l kinds.OpensMode e) in
       by_performed asking.SuidBit k.asks_made_mode launch.creds launch.table here x (makes_bit x.operation x.such)
 
+  -- by a request to a ring
+  shown_requested : can_submit launch ≡ true → IsShown world asking.SuidBit
+  shown_requested e =
+      let r = ringing launch l e in
+      let x = mode_asked launch launch.creds launch.table r in
+      by_performed asking.SuidBit asks_mode _ launch.table (ring_behind launch launch.creds launch.creds launch.table launch.table [] here r)
+      x x.such
+
+  -- by creat(2) of a file that can be written
+  shown_created : can_create launch (power_of launch) ≡ true → IsShown world asking.SuidBit
+  shown_created e =
+      let both = and_parts (lets launch kinds.CreatesMode) (list_any (can_write launch (power_of launch)) launch.site.rows) e in
+      let some = any_at (can_write launch (power_of launch)) launch.site.rows both.1 in
+      let target : Row = some.1 in
+      let can = and_parts (not (is_dir target.kind)) (reaches (power_of launch) launch.table target.path (mount_wish target.kind ToWrite)) some.3 in
+      let x = led some.0 target some.2 (ForWish (mount_wish target.kind ToWrite)) can.1 in
+      let c = creates_mode launch x.creds x.now x.found.path x.found.can_be_named target x.found.is_found (not-true (is_dir target.kind) can.0) x.found.is_allowed (some_line launch l kinds.CreatesMode both.0) in
+      by_performed asking.SuidBit k.asks_created_mode x.creds x.now x.way c (created_bit c.operation c.such)
+
   shown_suid : is_open launch asking.SuidBit ≡ true → IsShown world asking.SuidBit
-  shown_suid e = elim (or_cases (lets launch kinds.SetsMode) (lets launch kinds.OpensMode) e) [
-    | inl sets ↦ shown_free asking.SuidBit kinds.SetsMode refl (λ call x. sets_mode x.operation x.such) sets
-    | inr makes ↦ shown_made makes
-  ]
+  shown_suid e =
+      let calls = lets launch kinds.SetsMode || lets launch kinds.OpensMode in
+      elim (or_cases (calls || can_submit launch) (can_create launch (power_of launch)) e) [
+        | inl sooner ↦ elim (or_cases calls (can_submit launch) sooner) [
+          | inl some ↦ elim (or_cases (lets launch kinds.SetsMode) (lets launch kinds.OpensMode) some) [
+            | inl sets ↦ shown_free asking.SuidBit kinds.SetsMode refl (λ call x. sets_mode x.operation x.such) sets
+            | inr makes ↦ shown_made makes
+          ]
+          | inr can ↦ shown_requested can
+        ]
+        | inr creates ↦ shown_created creates
+      ]
 
   pub shown : (question : Question) → IsFit launch.site question → is_open launch question ≡ true → IsShown world question
   shown (asking.Path wish place) fit e = let x = listed_is (can_reach launch (power_of launch) wish) (slice_get launch.site.rows place) e in shown_row place x.0 x.1 wish fit x.2
@@ -341,8 +400,8 @@ module _ (world : World) (launch : Launch) (l : IsLaunched launch) (o : Offers l
       let both = and_parts (list_any (λ other. bytes_eq x.0.name other.name && lets_line launch kinds.PlainCall other) (every_call launch.calls)) (can_have_for (ceiling launch) (rule_of x.0)) x.2 in
       shown_call place x.0 x.1 both.0 both.1
   shown (asking.Socket place) fit e =
-      let x = listed_is (λ line. lets launch (kinds.ForFamily line.number) && can_have_cap (ceiling launch) line.cap) (slice_get launch.calls.families place) e in
-      let both = and_parts (lets launch (kinds.ForFamily x.0.number)) (can_have_cap (ceiling launch) x.0.cap) x.2 in
+      let x = listed_is (λ line. can_make_socket launch line.number && can_have_cap (ceiling launch) line.cap) (slice_get launch.calls.families place) e in
+      let both = and_parts (can_make_socket launch x.0.number) (can_have_cap (ceiling launch) x.0.cap) x.2 in
       shown_socket place x.0 x.1 both.0 both.1
   shown (asking.Namespace space) fit e = shown_ns space e
   shown asking.MapWx fit e =

@@ -15,7 +15,10 @@ use Rattle.std.specs.Option.{option_map_or}
 use Rattle.launcher.specs.kernel_model.kernel_calls.Operation as d
 use Rattle.launcher.specs.kernel_model.Effects as f
 use Rattle.launcher.specs.kernel_model.Effects.{Effect, Host, SetCreds, SetTable, effect_of, looks, creds_effect, table_effect, with_admin}
-use Rattle.launcher.specs.kernel_model.Effects.{Caller}
+use Rattle.launcher.specs.kernel_model.Effects.{Caller, request_effect}
+use Rattle.launcher.specs.kernel_model.declared.kernel_calls.request.Request.{Request}
+use Rattle.launcher.specs.kernel_model.declared.kernel_calls.request.Request.TheVariants as ask
+use Rattle.launcher.specs.linux_numbers.Errnos.{ebadf}
 use Rattle.launcher.specs.kernel_laws.Launched.{Launch, data_at}
 use Rattle.launcher.specs.bpf_code.declared.machine.Insn.{Insn}
 use Rattle.launcher.specs.kern_mounts.Mounts.{Mounts, plain, steps_of}
@@ -34,16 +37,25 @@ use Rattle.launcher.specs.kernel_model.declared.reply.Reply.{Reply}
 use Rattle.launcher.specs.kernel_model.Step.{most_namespaces, step, step_by, decision_by, decided, answered, applied}
 use Rattle.reach_paths.proofs.Processes.{put_own}
 use Rattle.kernel_ways.specs.Showing.{IsDoable}
-use Rattle.kernel_ways.specs.Ways.{effect_on, IsSolo, Way, here, by_creds, by_table, Makes, solo_world, solo_process, host_at}
+use Rattle.kernel_ways.specs.Ways.{effect_on, request_on, IsSolo, Way, here, by_creds, by_table, Makes, solo_world, solo_process, host_at}
 
 -- by the entries alone, of a table that is not locked and keeps nothing
+request_by : (host : Host) (creds : Creds) (stack : List (List Insn)) (table : Table) (request : Request)
+    → request_effect host (record { creds = creds; stack = stack; table = map plain table; newer = false; owns = true }) request
+    ≡ request_on host (record { creds = creds; stack = stack; table = map plain table; newer = false; owns = true }) table request
+request_by host creds stack table (ask.Stat path) = ap (λ (t : Table). looks (see_answer 0 (finds host.rows t path))) (steps_plain table)
+request_by host creds stack table (ask.Open path flags) =
+    ap (λ (t : Table). looks (open_answer flags (flags_at t path) (finds host.rows t path))) (steps_plain table)
+request_by host creds stack table (ask.Socket family) = refl
+request_by host creds stack table (ask.Mode mode) = refl
+
 effect_by : (host : Host) (creds : Creds) (stack : List (List Insn)) (table : Table) (operation : Operation)
     → effect_of host (record { creds = creds; stack = stack; table = map plain table; newer = false; owns = true }) operation
     ≡ effect_on host (record { creds = creds; stack = stack; table = map plain table; newer = false; owns = true }) table operation
 effect_by host creds stack table (d.See path) = ap (λ (t : Table). looks (see_answer 0 (finds host.rows t path))) (steps_plain table)
 effect_by host creds stack table (d.Open flags mode path) =
     ap (λ (t : Table). looks (open_answer flags (flags_at t path) (finds host.rows t path))) (steps_plain table)
-effect_by host creds stack table (d.Create path) = ap (λ (t : Table). looks (write_answer 3 (flags_at t path) (finds host.rows t path)))
+effect_by host creds stack table (d.Create mode path) = ap (λ (t : Table). looks (write_answer 3 (flags_at t path) (finds host.rows t path)))
     (steps_plain table)
 effect_by host creds stack table (d.Truncate path) = ap (λ (t : Table). looks (write_answer 0 (flags_at t path) (finds host.rows t path)))
     (steps_plain table)
@@ -74,6 +86,9 @@ effect_by host creds stack table (d.Setgroups ids) = refl
 effect_by host creds stack table (d.Capset p e i) = refl
 effect_by host creds stack table (d.Prctl option value third fourth fifth) = refl
 effect_by host creds stack table (d.Seccomp op flags bytes) = refl
+effect_by host creds stack table d.SetUpRing = refl
+effect_by host creds stack table (d.Submit request) =
+    ap (λ effect. cond creds.ring effect (f.Refuse ebadf)) (request_by host creds stack table request)
 effect_by host creds stack table (d.Plain cap) = refl
 
 pub way_join : {launch : Launch} {a b c : Creds} {s t u : Table} {xs ys : List Call} → Way launch a s xs b t → Way launch b t ys c u
@@ -134,7 +149,7 @@ module _ (launch : Launch) (creds : Creds) (table : Table) (namespace : ℕ) (sp
   done_by : (e : Effect) → IsDoable e → IsDone (applied own_world 1 own_process e).0
   done_by (f.Refuse errno) h = absurd h
   done_by (f.Answer value) h = tt
-  done_by (f.SetCreds now) h = tt
+  done_by (f.SetCreds value now) h = tt
   done_by (f.SetTable now) h = tt
   done_by (f.Push program) h = tt
   done_by (f.Child false) h = tt
@@ -151,9 +166,9 @@ module _ (launch : Launch) (creds : Creds) (table : Table) (world : World) (s : 
   pub solo_done : (effect : Effect) → Makes launch creds table operation call effect → IsDoable effect → IsDone (step world call).0
   solo_done effect m h = let P : World → Type 0 = λ w. IsDone (step w call).0 in subst P (sym s.is) (is_done launch creds table s.namespace s.spaces s.numbered s.own s.few operation call effect m h)
 
-  pub solo_creds : (now : Creds) → Makes launch creds table operation call (SetCreds now) → IsSolo launch now table (step world call).1
-  solo_creds now m =
-      let is = ap (λ (w : World). (step w call).1) s.is ∙ ap (λ (r : Reply × World). r.1) (steps launch creds table s.namespace s.spaces s.numbered s.own s.few operation call (SetCreds now) m) in
+  pub solo_creds : (value : ℕ) (now : Creds) → Makes launch creds table operation call (SetCreds value now) → IsSolo launch now table (step world call).1
+  solo_creds value now m =
+      let is = ap (λ (w : World). (step w call).1) s.is ∙ ap (λ (r : Reply × World). r.1) (steps launch creds table s.namespace s.spaces s.numbered s.own s.few operation call (SetCreds value now) m) in
       record { namespace = s.namespace; spaces = s.spaces; is = is; numbered = s.numbered; own = s.own; few = s.few }
 
   pub solo_table : (now : Table) → Makes launch creds table operation call (SetTable (map plain now))
@@ -182,7 +197,7 @@ pub way_runs : {launch : Launch} {a b : Creds} {s t : Table} {list : List Call} 
     → IsSolo launch a s world → WayRuns launch b t world list
 way_runs here world s = record { fit = tt; done = tt; solo = s }
 way_runs {launch = launch} (by_creds call m more) world s =
-    let rest = way_runs more _ (solo_creds launch _ _ world s _ call _ m) in
+    let rest = way_runs more _ (solo_creds launch _ _ world s _ call _ _ m) in
     record { fit = (m.fit, rest.fit); done = (solo_done launch _ _ world s _ call _ m tt, rest.done); solo = rest.solo }
 way_runs {launch = launch} (by_table call m more) world s =
     let rest = way_runs more _ (solo_table launch _ _ world s _ call _ m) in

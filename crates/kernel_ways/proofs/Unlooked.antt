@@ -39,7 +39,7 @@ use Rattle.launcher.specs.kernel_model.declared.kernel_calls.rule.Rule.{Rule}
 use Rattle.launcher.specs.kernel_model.declared.kernel_calls.rule.Rule.TheVariants.{Known}
 use Rattle.launcher.specs.kernel_laws.FirstChoice.{Means}
 use Rattle.launcher.specs.kernel_laws.Launched.{Launch, data_at}
-use Rattle.launcher.proofs.OfKernelLaws.FilterChoices.{HasRules, with_name, rule_named, rules_named, open_rules, openat_rules, fchmodat2_rules}
+use Rattle.launcher.proofs.OfKernelLaws.FilterChoices.{HasRules, with_name, rule_named, rules_named, creat_rules, open_rules, openat_rules, fchmodat2_rules}
 use Rattle.launcher.proofs.OfKernelLaws.Filters.{HasRule, has_rule}
 use Rattle.launcher.proofs.OfKernelLaws.Programs.{stack_passes}
 use Rattle.kernel_ways.specs.Launching.{SettingsPassAlike}
@@ -96,7 +96,7 @@ module _ (line : CallLine) (rule : Rule) (is : rule_of line ≡ Some rule) (unlo
         no_name (codes "fchmod") (Known (known.SetMode Second)) refl refl,
         no_name (codes "mkdir") (Known (known.SetMode Second)) refl refl,
         no_name (codes "mknod") (Known (known.SetMode Second)) refl refl,
-        no_name (codes "creat") (Known known.Create) refl refl,
+        no_rules (codes "creat") (Known known.Create) (Known known.CreateWith) (creat_rules line) refl refl,
         no_name (codes "fchmodat") (Known (known.SetMode Third)) refl refl,
         no_name (codes "mkdirat") (Known (known.SetMode Third)) refl refl,
         no_name (codes "mknodat") (Known (known.SetMode Third)) refl refl,

@@ -31,7 +31,7 @@ use Rattle.kernel_ways.specs.Ways.{Way, IsSolo, Makes}
 abbrev pub IsDoable : Effect → Type 0
 IsDoable (Refuse errno) = ⊥
 IsDoable (Answer value) = Unit {0}
-IsDoable (SetCreds creds) = Unit {0}
+IsDoable (SetCreds value creds) = Unit {0}
 IsDoable (SetTable table) = Unit {0}
 IsDoable (Push program) = Unit {0}
 IsDoable (Child own) = Unit {0}

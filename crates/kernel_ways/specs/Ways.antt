@@ -1,5 +1,6 @@
 -- Ways: lists of calls of process 1 alone, each of which is done, that change its credentials or its mount table.
 use Rattle.std.specs.Prelude.{◌≡◌, ℕ, ◌-◌, ◌==◌, nat_lt, true, false, List, [], ◌∷◌, length, Some, slice_get, map, ◌<◌, ◌^◌, Option}
+use Rattle.std.specs.Prelude.{if◌then◌else◌}
 use Rattle.launcher.specs.site_table.Table.{row_at}
 use Rattle.launcher.specs.kern_creds.declared.creds.Creds.{Creds}
 use Rattle.launcher.specs.kern_mounts.Finds.{finds}
@@ -13,8 +14,12 @@ use Rattle.launcher.specs.call_table.declared.listed.CallLine.{CallLine}
 use Rattle.launcher.specs.kernel_model.kernel_calls.Calls.{IsCall}
 use Rattle.launcher.specs.kernel_model.kernel_calls.Rules.{rule_at}
 use Rattle.launcher.specs.kernel_model.declared.kernel_calls.rule.Rule.{Rule}
-use Rattle.launcher.specs.kernel_model.kernel_calls.Operation.{Operation, See, Open, Create, Truncate, Execve, Does, asked_of}
-use Rattle.launcher.specs.kernel_model.Effects.{Effect, SetCreds, SetTable, Host, Caller, effect_of, looks, creds_effect}
+use Rattle.launcher.specs.kernel_model.kernel_calls.Operation.{Operation, See, Open, Create, Truncate, Execve, Submit, Does, asked_of}
+use Rattle.launcher.specs.kernel_model.declared.kernel_calls.request.Request.{Request}
+use Rattle.launcher.specs.kernel_model.declared.kernel_calls.request.Request.TheVariants.{Stat, Open as AskOpen}
+use Rattle.launcher.specs.kernel_model.Effects.{Effect, Refuse, SetCreds, SetTable, Host, Caller, effect_of, looks, creds_effect}
+use Rattle.launcher.specs.kernel_model.Effects.{request_effect}
+use Rattle.launcher.specs.linux_numbers.Errnos.{ebadf}
 use Rattle.launcher.specs.kernel_model.Step.{most_namespaces}
 use Rattle.launcher.specs.kernel_model.MountNamespaces.{owned_by_first}
 use Rattle.launcher.specs.kernel_model.World.{World, has_mdwe}
@@ -39,20 +44,27 @@ pub record IsSolo (launch : Launch) (creds : Creds) (table : Table) (world : Wor
   pub own : slice_get spaces (namespace - 1) ≡ Some (owned_by_first (map plain table))
   pub few : nat_lt (length spaces) most_namespaces ≡ true
 
--- the rows and families of the host, and what process 1 has, as a rule sees them
+-- the host, and what process 1 has, as a rule sees them
 abbrev pub host_at : Launch → Host
-host_at launch = record { rows = row_at launch.site.rows; families = launch.calls.families; mdwe = has_mdwe launch.site }
+host_at launch = record { rows = row_at launch.site.rows; families = launch.calls.families; mdwe = has_mdwe launch.site; rings = launch.site.io_uring }
 
 abbrev pub caller_at : Launch → Creds → Table → Caller
 caller_at launch creds table = record { creds = creds; stack = launch.stack; table = map plain table; newer = false; owns = true }
 
--- the effect of a call; where it looks at a path, by the entries of the caller's table alone
+-- the effect of a request to a ring; where it looks at a path, by the entries of the caller's table alone
+abbrev pub request_on : Host → Caller → Table → Request → Effect
+request_on host caller table (Stat path) = looks (see_answer 0 (finds host.rows table path))
+request_on host caller table (AskOpen path flags) = looks (open_answer flags (flags_at table path) (finds host.rows table path))
+request_on host caller table request = request_effect host caller request
+
+-- the effect of a call, by the same
 abbrev pub effect_on : Host → Caller → Table → Operation → Effect
 effect_on host caller table (See path) = looks (see_answer 0 (finds host.rows table path))
 effect_on host caller table (Open flags mode path) = looks (open_answer flags (flags_at table path) (finds host.rows table path))
-effect_on host caller table (Create path) = looks (write_answer 3 (flags_at table path) (finds host.rows table path))
+effect_on host caller table (Create mode path) = looks (write_answer 3 (flags_at table path) (finds host.rows table path))
 effect_on host caller table (Truncate path) = looks (write_answer 0 (flags_at table path) (finds host.rows table path))
 effect_on host caller table (Execve path) = creds_effect (exec_answer caller.creds (flags_at table path) (finds host.rows table path))
+effect_on host caller table (Submit request) = if caller.creds.ring then request_on host caller table request else Refuse ebadf
 effect_on host caller table operation = effect_of host caller operation
 
 -- a call of an ABI, by its number
@@ -84,8 +96,8 @@ pub record Makes (launch : Launch) (creds : Creds) (table : Table) (operation : 
 -- the calls lead from these credentials and this mount table to those
 pub data Way (launch : Launch) : Creds → Table → List Call → Creds → Table → Type 0 where
   here : {creds : Creds} {table : Table} → Way launch creds table [] creds table
-  by_creds : {creds now last : Creds} {table end : Table} {rest : List Call} {operation : Operation} (call : Call)
-      → Makes launch creds table operation call (SetCreds now) →
+  by_creds : {creds now last : Creds} {table end : Table} {rest : List Call} {operation : Operation} {value : ℕ} (call : Call)
+      → Makes launch creds table operation call (SetCreds value now) →
       Way launch now table rest last end → Way launch creds table (call ∷ rest) last end
   by_table : {creds last : Creds} {table now end : Table} {rest : List Call} {operation : Operation} (call : Call)
       → Makes launch creds table operation call (SetTable (map plain now)) →
