@@ -14,6 +14,7 @@ use Rattle.asked_service.specs.kern_creds.declared.creds.Creds.{Creds}
 use Rattle.asked_service.specs.kern_creds.Capset.{after_capset}
 use Rattle.asked_service.specs.kern_creds.Prctl.{after_drop_bounding, after_raise, after_lower, after_clear_ambient, after_set_keepcaps}
 use Rattle.asked_service.specs.kern_creds.Prctl.{after_set_no_new_privs, after_set_mdwe}
+use Rattle.asked_service.specs.kern_creds.Ring.{after_set_up_ring}
 use Rattle.asked_service.specs.kern_creds.Setgroups.{after_setgroups}
 use Rattle.asked_service.specs.kern_creds.Setresuid.{after_setresuid, after_setresgid}
 use Rattle.asked_service.specs.kern_creds.Setuid.{after_setuid, after_setgid}
@@ -27,6 +28,8 @@ use Rattle.asked_service.specs.kernel_model.kern_files.UmountCall.{umount_answer
 use Rattle.asked_service.specs.kernel_model.kernel_calls.Operation as d
 use Rattle.asked_service.specs.kernel_model.kernel_calls.Operation.{Operation, Asked, Lacking, Misformed, Does, asked_of}
 use Rattle.asked_service.specs.kernel_model.declared.kernel_calls.call.Call.{Call}
+use Rattle.asked_service.specs.kernel_model.declared.kernel_calls.request.Request.{Request}
+use Rattle.asked_service.specs.kernel_model.declared.kernel_calls.request.Request.TheVariants as ask
 use Rattle.asked_service.specs.kernel_model.declared.process.Process.{Process}
 use Rattle.asked_service.specs.kernel_model.declared.reply.Reply.{Reply}
 use Rattle.asked_service.specs.kernel_model.declared.reply.Reply.TheVariants as w
@@ -36,13 +39,14 @@ use Rattle.asked_service.specs.kernel_model.Effects.{first_alone, schedule_answe
 use Rattle.asked_service.specs.kernel_model.Effects.{no_new_privs_effect, keepcaps_effect, prctl_effect, effect_of}
 use Rattle.asked_service.specs.kernel_model.Effects.{socketcall_effect, protect_effect, attach_effect, set_mdwe_effect, prctl_effect_of}
 use Rattle.asked_service.specs.kernel_model.Effects.{attributes_effect, sockets_effect, socketpair_effect, no_pair, clone_effect}
+use Rattle.asked_service.specs.kernel_model.Effects.{request_effect}
 use Rattle.asked_service.specs.kernel_model.Effects.{unshare_effect, newns, newuser, other_spaces, no_spaces, thread_flag}
 use Rattle.asked_service.specs.kernel_model.Step.{applied, child_in, child_of, decision_of, has_user_left, moved_in}
 use Rattle.asked_service.specs.kernel_model.World.{World, ended, entered_by, host_of, if_alive, living_of, moved_to, process_of, with_child}
 use Rattle.asked_service.specs.kernel_model.World.{with_copy, with_process, with_user}
 use Rattle.asked_service.specs.launcher.Alike.{above, over}
 use Rattle.asked_service.specs.linux_numbers.Capabilities.{cap_sys_admin, cap_last_cap}
-use Rattle.asked_service.specs.linux_numbers.Errnos.{eagain, eperm, eacces, einval, enospc}
+use Rattle.asked_service.specs.linux_numbers.Errnos.{eagain, eperm, ebadf, eacces, einval, enospc}
 use Rattle.asked_service.specs.linux_numbers.Limits.{no_id}
 use Rattle.asked_service.proofs.OfLauncher.Alike.{caller_over, own_answered, own_by, own_decided, own_step}
 use Rattle.derive_command.specs.trace_profile.allow_laws.Either.{PushesNone}
@@ -116,7 +120,7 @@ stays_ambient creds op cap' =
     let set : Effect = is_set_effect creds cap' in
     let raise : Effect = creds_effect (after_raise creds cap') in
     let lower : Effect = creds_effect (after_lower creds cap') in
-    let clear : Effect = f.SetCreds (after_clear_ambient creds) in
+    let clear : Effect = f.SetCreds 0 (after_clear_ambient creds) in
     let four : Effect = cond (eqb op 4) clear (f.Refuse einval) in
     let three : Effect = cond (eqb op 3) lower four in
     let two : Effect = cond (eqb op 2) raise three in
@@ -136,9 +140,9 @@ stays_prctl creds option value third =
     let four : Effect = cond (eqb option 24) drop five in
     let three : Effect = cond (eqb option 8) keep four in
     let two : Effect = cond (eqb option 39) marked three in
-    either (eqb option 38) mark two (either (eqb value 1) (f.SetCreds (after_set_no_new_privs creds)) (f.Refuse einval) tt tt)
+    either (eqb option 38) mark two (either (eqb value 1) (f.SetCreds 0 (after_set_no_new_privs creds)) (f.Refuse einval) tt tt)
     (either (eqb option 39) marked three tt
-    (either (eqb option 8) keep four (either (nat_lt value 2) (f.SetCreds (after_set_keepcaps creds (eqb value 1))) (f.Refuse einval) tt tt)
+    (either (eqb option 8) keep four (either (nat_lt value 2) (f.SetCreds 0 (after_set_keepcaps creds (eqb value 1))) (f.Refuse einval) tt tt)
     (either (eqb option 24) drop five (stays_creds (after_drop_bounding creds value))
     (either (eqb option 47) (ambient_effect creds value third) (f.Refuse einval) (stays_ambient creds value third) tt))))
 
@@ -156,7 +160,7 @@ stays_prctl_of mdwe creds option value third fourth fifth =
     stays_set true =
         let clear : Effect = cond creds.mdwe (f.Refuse eperm) (f.Answer 0) in
         let two : Effect = cond (eqb value 0) clear (f.Refuse einval) in
-        either (eqb value 1) (f.SetCreds (after_set_mdwe creds)) two tt
+        either (eqb value 1) (f.SetCreds 0 (after_set_mdwe creds)) two tt
         (either (eqb value 0) clear (f.Refuse einval) (either creds.mdwe (f.Refuse eperm) (f.Answer 0) tt tt) tt)
 
 stays_protect : (creds : Creds) (protection : ℕ) → Stays (protect_effect creds protection)
@@ -185,11 +189,18 @@ stays_unshare creds flags =
     (either (has_some other_spaces flags) (with_admin creds own) (f.Answer 0)
     (either (has creds.effective cap_sys_admin) own (f.Refuse eperm) (either (has_some newns flags) f.OwnTable (f.Answer 0) tt tt) tt) tt))
 
+stays_request : (host : Host) (caller : Caller) (request : Request) → Stays (request_effect host caller request)
+stays_request host caller (ask.Stat path) = stays_looks (see_answer 0 (finds host.rows (steps_of caller.table) path))
+stays_request host caller (ask.Open path flags) = stays_looks
+    (open_answer flags (flags_at (steps_of caller.table) path) (finds host.rows (steps_of caller.table) path))
+stays_request host caller (ask.Socket family) = stays_socket caller.newer caller.creds (numbered family host.families)
+stays_request host caller (ask.Mode mode) = tt
+
 effect_stays : (table : Table) (call : Call) (nothing : PushesNone table call) (host : Host) (caller : Caller) (operation : Operation) → asked_of table call ≡ Does operation → Stays (effect_of host caller operation)
 effect_stays table call nothing host caller (d.See path) e = stays_looks (see_answer 0 (finds host.rows (steps_of caller.table) path))
 effect_stays table call nothing host caller (d.Open flags mode path) e = stays_looks
     (open_answer flags (flags_at (steps_of caller.table) path) (finds host.rows (steps_of caller.table) path))
-effect_stays table call nothing host caller (d.Create path) e =
+effect_stays table call nothing host caller (d.Create mode path) e =
     stays_looks (write_answer 3 (flags_at (steps_of caller.table) path) (finds host.rows (steps_of caller.table) path))
 effect_stays table call nothing host caller (d.Truncate path) e =
     stays_looks (write_answer 0 (flags_at (steps_of caller.table) path) (finds host.rows (steps_of caller.table) path))
@@ -238,6 +249,10 @@ effect_stays table call nothing host caller (d.Capset permitted effective inheri
 effect_stays table call nothing host caller (d.Prctl option value third fourth fifth) e =
     stays_prctl_of host.mdwe caller.creds option value third fourth fifth
 effect_stays table call nothing host caller (d.Seccomp op flags code) e = absurd (nothing op flags code e)
+effect_stays table call nothing host caller d.SetUpRing e =
+    either host.rings (f.SetCreds 3 (after_set_up_ring caller.creds)) (f.Refuse eperm) tt tt
+effect_stays table call nothing host caller (d.Submit request) e =
+    either caller.creds.ring (request_effect host caller request) (f.Refuse ebadf) (stays_request host caller request) tt
 effect_stays table call nothing host caller (d.Plain cap') e = stays_alone caller.newer cap' caller.creds 0
 
 -- ---- processes
@@ -306,7 +321,7 @@ bare_applied : (world : World) (pid : ℕ) (process : Process) (effect : Effect)
     → AreBare (applied world pid process effect).1
 bare_applied world pid process (f.Refuse errno) stays bare is = bare
 bare_applied world pid process (f.Answer value) stays bare is = bare
-bare_applied world pid process (f.SetCreds creds) stays bare is = each_set world.processes (pid - 1) (record process { creds = creds }) bare is
+bare_applied world pid process (f.SetCreds value creds) stays bare is = each_set world.processes (pid - 1) (record process { creds = creds }) bare is
 bare_applied world pid process (f.SetTable table) stays bare is = bare
 bare_applied world pid process (f.Push program) stays bare is = absurd stays
 bare_applied world pid process (f.Child own) stays bare is = by (nat_lt (length world.processes) 1024)

@@ -22,13 +22,13 @@ use Rattle.asked_service.specs.call_table.Table.{Table, calls_in}
 use Rattle.asked_service.specs.call_table.declared.listed.CallLine.{CallLine}
 use Rattle.asked_service.specs.kernel_model.kernel_calls.Operation as d
 use Rattle.asked_service.specs.kernel_model.kernel_calls.Operation.{Asked, Does, Operation, Lacking, Misformed, asked_by, asked_if, asked_of, bare}
-use Rattle.asked_service.specs.kernel_model.kernel_calls.Operation.{by_code, by_number, by_ids, by_path, by_path_flags, by_paths, by_sets, known_operation}
+use Rattle.asked_service.specs.kernel_model.kernel_calls.Operation.{by_code, by_number, by_ids, by_path, by_path_flags, by_paths, by_request, by_sets, known_operation}
 use Rattle.asked_service.specs.kernel_model.kernel_calls.Rules.{rule_by, rule_of}
 use Rattle.asked_service.specs.kernel_model.kernel_calls.Words.{low_word}
 use Rattle.asked_service.specs.kernel_model.declared.kernel_calls.call.Call.{Call}
 use Rattle.asked_service.specs.kernel_model.declared.kernel_calls.payload.Payload.{Payload}
 use Rattle.asked_service.specs.kernel_model.declared.kernel_calls.payload.Payload.TheVariants.{Nothing, OnePath, TwoPaths, PathFlags, Sets, Ids}
-use Rattle.asked_service.specs.kernel_model.declared.kernel_calls.payload.Payload.TheVariants.{Number, Code}
+use Rattle.asked_service.specs.kernel_model.declared.kernel_calls.payload.Payload.TheVariants.{Number, Code, Ring}
 use Rattle.derive_command.specs.trace_profile.allow_laws.Either.{PushNone, PushesNone}
 use Rattle.derive_command.specs.trace_profile.Scripts.{first_seccomp, is_seccomp}
 
@@ -51,6 +51,7 @@ bare_off operation off (Sets p e i) = refl
 bare_off operation off (Ids ids) = refl
 bare_off operation off (Number number) = refl
 bare_off operation off (Code bytes) = refl
+bare_off operation off (Ring request) = refl
 
 path_off : (operation : Path → Operation) → ((path : Path) → pushing (operation path) ≡ false) → (payload : Payload)
     → pushes (asked_if (by_path operation payload)) ≡ false
@@ -62,6 +63,7 @@ path_off operation off (Sets p e i) = refl
 path_off operation off (Ids ids) = refl
 path_off operation off (Number number) = refl
 path_off operation off (Code bytes) = refl
+path_off operation off (Ring request) = refl
 
 paths_off : (operation : Path → Path → Operation) → ((one other : Path) → pushing (operation one other) ≡ false) → (payload : Payload)
     → pushes (asked_if (by_paths operation payload)) ≡ false
@@ -73,6 +75,7 @@ paths_off operation off (Sets p e i) = refl
 paths_off operation off (Ids ids) = refl
 paths_off operation off (Number number) = refl
 paths_off operation off (Code bytes) = refl
+paths_off operation off (Ring request) = refl
 
 path_flags_off : (operation : Path → ℕ → Operation) → ((path : Path) (flags : ℕ) → pushing (operation path flags) ≡ false) → (payload : Payload)
     → pushes (asked_if (by_path_flags operation payload)) ≡ false
@@ -84,6 +87,7 @@ path_flags_off operation off (Sets p e i) = refl
 path_flags_off operation off (Ids ids) = refl
 path_flags_off operation off (Number number) = refl
 path_flags_off operation off (Code bytes) = refl
+path_flags_off operation off (Ring request) = refl
 
 sets_off : (payload : Payload) → pushes (asked_if (by_sets d.Capset payload)) ≡ false
 sets_off Nothing = refl
@@ -94,6 +98,7 @@ sets_off (Sets p e i) = refl
 sets_off (Ids ids) = refl
 sets_off (Number number) = refl
 sets_off (Code bytes) = refl
+sets_off (Ring request) = refl
 
 ids_off : (payload : Payload) → pushes (asked_if (by_ids d.Setgroups payload)) ≡ false
 ids_off Nothing = refl
@@ -104,6 +109,7 @@ ids_off (Sets p e i) = refl
 ids_off (Ids ids) = refl
 ids_off (Number number) = refl
 ids_off (Code bytes) = refl
+ids_off (Ring request) = refl
 
 number_off : (operation : ℕ → Operation) → ((number : ℕ) → pushing (operation number) ≡ false) → (payload : Payload)
     → pushes (asked_if (by_number operation payload)) ≡ false
@@ -115,6 +121,18 @@ number_off operation off (Sets p e i) = refl
 number_off operation off (Ids ids) = refl
 number_off operation off (Number number) = off number
 number_off operation off (Code bytes) = refl
+number_off operation off (Ring request) = refl
+
+request_off : (payload : Payload) → pushes (asked_if (by_request d.Submit payload)) ≡ false
+request_off Nothing = refl
+request_off (OnePath path) = refl
+request_off (TwoPaths source target) = refl
+request_off (PathFlags path flags) = refl
+request_off (Sets p e i) = refl
+request_off (Ids ids) = refl
+request_off (Number number) = refl
+request_off (Code bytes) = refl
+request_off (Ring request) = refl
 
 -- a known call of this rule may push a program
 abbrev is_push : CallRule → Bool
@@ -128,7 +146,8 @@ known_off (known.Open flags) args payload off = path_off (d.Open (low_word args 
 known_off (known.OpenWith flags) args payload off =
     path_off (d.Open (low_word args (place_of flags)) (low_word args (mode_place_of flags))) (λ path. refl) payload
 known_off known.Openat2 args payload off = path_flags_off (λ path flags. d.Open flags 0 path) (λ path flags. refl) payload
-known_off known.Create args payload off = path_off d.Create (λ path. refl) payload
+known_off known.Create args payload off = path_off (d.Create 0) (λ path. refl) payload
+known_off known.CreateWith args payload off = path_off (d.Create (low_word args 1)) (λ path. refl) payload
 known_off known.Truncate args payload off = path_off d.Truncate (λ path. refl) payload
 known_off known.Execve args payload off = path_off d.Execve (λ path. refl) payload
 known_off (known.SetMode mode) args payload off = bare_off (d.SetMode (low_word args (place_of mode))) refl payload
@@ -160,6 +179,8 @@ known_off known.Capset args payload off = sets_off payload
 known_off known.Prctl args payload off =
     bare_off (d.Prctl (low_word args 0) (low_word args 1) (low_word args 2) (low_word args 3) (low_word args 4)) refl payload
 known_off known.Seccomp args payload off = cc
+known_off known.SetUpRing args payload off = bare_off d.SetUpRing refl payload
+known_off known.Submit args payload off = request_off payload
 
 abbrev may_push : KnownCall → Bool
 may_push Absent = false

@@ -13,7 +13,9 @@ use Rattle.asked_service.specs.kernel_model.declared.kernel_calls.call.Call.{Cal
 use Rattle.asked_service.specs.kernel_model.kernel_calls.Operation as d
 use Rattle.asked_service.specs.kernel_model.kernel_calls.Operation.{Operation, Asked, Lacking, Misformed, Does, asked_of}
 use Rattle.asked_service.specs.kernel_model.Effects as f
-use Rattle.asked_service.specs.kernel_model.Effects.{Effect, effect_of}
+use Rattle.asked_service.specs.kernel_model.Effects.{Effect, effect_of, request_effect}
+use Rattle.asked_service.specs.kernel_model.declared.kernel_calls.request.Request.{Request}
+use Rattle.asked_service.specs.kernel_model.declared.kernel_calls.request.Request.TheVariants as ask
 use Rattle.asked_service.specs.kernel_model.Runs.{IsDone}
 use Rattle.asked_service.specs.kernel_model.Step as kernel
 use Rattle.asked_service.specs.kernel_model.Step.{applied, child_in, child_of, data_of, decision_of, has_user_left, moved_in}
@@ -24,7 +26,7 @@ use Rattle.asked_service.specs.kernel_model.declared.reply.Reply.{Reply}
 use Rattle.asked_service.specs.kernel_model.declared.reply.Reply.TheVariants as w
 use Rattle.asked_service.specs.launcher.Alike.{over}
 use Rattle.asked_service.proofs.OfLauncher.Alike.{caller_over, own_answered, own_by, own_decided, own_step}
-use Rattle.asked_service.specs.linux_numbers.Errnos.{eagain, enospc}
+use Rattle.asked_service.specs.linux_numbers.Errnos.{eagain, ebadf, enospc}
 use Rattle.std.specs.Option.{option_map_or}
 use Rattle.derive_command.specs.trace_profile.allow_laws.Either.{AnswerSame, AnswersAsEither, PushesNone}
 
@@ -55,7 +57,7 @@ shape_moved old world pid process true = by (nat_lt (length world.namespaces) 64
 shape_applied : (world : World) (pid : ℕ) (process : Process) (effect : Effect) → Shape world (applied world pid process effect)
 shape_applied world pid process (f.Refuse errno) = refused errno
 shape_applied world pid process (f.Answer value) = done _ _
-shape_applied world pid process (f.SetCreds creds) = done _ _
+shape_applied world pid process (f.SetCreds value creds) = done _ _
 shape_applied world pid process (f.SetTable table) = done _ _
 shape_applied world pid process (f.Push program) = done _ _
 shape_applied world pid process (f.Child own) = by (nat_lt (length world.processes) 1024)
@@ -119,12 +121,20 @@ same_decision input one other same = ap (λ (ns : List ℕ). decision_by (decidi
 
 module _ (one other : List (List Insn)) (world : World) (call : Call) (nothing : PushesNone world.calls call) where
   module _ (process : Process) where
+    -- a request to a ring comes to the same
+    request_same : (request : Request) → request_effect (host_of world) (caller_over one world process) request
+        ≡ request_effect (host_of world) (caller_over other world process) request
+    request_same (ask.Stat path) = refl
+    request_same (ask.Open path flags) = refl
+    request_same (ask.Socket family) = refl
+    request_same (ask.Mode mode) = refl
+
     operation_same : (operation : Operation) → asked_of world.calls call ≡ Does operation
         → applied world call.pid process (effect_of (host_of world) (caller_over one world process) operation)
         ≡ applied world call.pid process (effect_of (host_of world) (caller_over other world process) operation)
     operation_same (d.See path) asks = refl
     operation_same (d.Open flags mode path) asks = refl
-    operation_same (d.Create path) asks = refl
+    operation_same (d.Create mode path) asks = refl
     operation_same (d.Truncate path) asks = refl
     operation_same (d.Execve path) asks = refl
     operation_same (d.SetMode mode) asks = refl
@@ -152,6 +162,9 @@ module _ (one other : List (List Insn)) (world : World) (call : Call) (nothing :
     operation_same (d.Capset p e i) asks = refl
     operation_same (d.Prctl option value third fourth fifth) asks = refl
     operation_same (d.Seccomp op flags bytes) asks = absurd (nothing op flags bytes asks)
+    operation_same d.SetUpRing asks = refl
+    operation_same (d.Submit request) asks = ap (λ effect. applied world call.pid process (cond process.creds.ring effect (f.Refuse ebadf)))
+        (request_same request)
     operation_same (d.Plain cap) asks = refl
 
     asked_same : (asked : Asked) → asked_of world.calls call ≡ asked

@@ -20,7 +20,9 @@ use Rattle.kernel_laws.specs.kernel_model.kernel_calls.Calls.{IsCall}
 use Rattle.kernel_laws.specs.kernel_model.kernel_calls.Operation as d
 use Rattle.kernel_laws.specs.kernel_model.kernel_calls.Operation.{Operation, Asked, Lacking, Misformed, Does, asked_of}
 use Rattle.kernel_laws.specs.kernel_model.Effects as f
-use Rattle.kernel_laws.specs.kernel_model.Effects.{Effect, Caller, effect_of, push_effect}
+use Rattle.kernel_laws.specs.kernel_model.Effects.{Effect, Caller, effect_of, push_effect, request_effect}
+use Rattle.kernel_laws.specs.kernel_model.declared.kernel_calls.request.Request.{Request}
+use Rattle.kernel_laws.specs.kernel_model.declared.kernel_calls.request.Request.TheVariants as ask
 use Rattle.kernel_laws.specs.kernel_model.declared.reply.Reply.TheVariants as w
 use Rattle.kernel_laws.specs.kernel_model.World.{World, living_of, process_of, if_alive, with_process, with_copy, with_child, moved_to}
 use Rattle.kernel_laws.specs.kernel_model.World.{ended, mounts_of, host_of, with_user, entered_by, owner_of, is_newer}
@@ -30,7 +32,7 @@ use Rattle.kernel_laws.specs.kernel_model.Step.{step, step_by, decided, answered
 use Rattle.kernel_laws.specs.kernel_model.Step.{has_user_left, decision_of}
 use Rattle.launcher.specs.Alike.{AnswerAlike, over, above, IsFullInOne, SameReplies, AlikeReplies, AlikeRun, AlikeRuns, Pushes, FullByOwn}
 use Rattle.launcher.specs.Alike.{RoomByBounds, HasWordArchs}
-use Rattle.kernel_laws.specs.linux_numbers.Errnos.{eacces, eagain, efault, einval, enomem, enospc, enosys, esrch}
+use Rattle.kernel_laws.specs.linux_numbers.Errnos.{eacces, eagain, ebadf, efault, einval, enomem, enospc, enosys, esrch}
 use Rattle.kernel_laws.specs.linux_numbers.Limits.{max_insns_per_path}
 use Rattle.kernel_laws.specs.linux_numbers.Capabilities.{cap_sys_admin}
 
@@ -135,7 +137,7 @@ module _ (programs : List (List Insn)) where
       → applied (above programs world) pid (over programs process) effect ≡ lifted (applied world pid process effect)
   applied_above world pid process (f.Refuse errno) = refl
   applied_above world pid process (f.Answer value) = refl
-  applied_above world pid process (f.SetCreds creds) = ap (λ (v : World). (w.Done 0, v))
+  applied_above world pid process (f.SetCreds value creds) = ap (λ (v : World). (w.Done value, v))
       (put_above world pid (record process { creds = creds }))
   applied_above world pid process (f.SetTable table) = refl
   applied_above world pid process (f.Push program) =
@@ -300,12 +302,20 @@ module _ (one other : List (List Insn)) (world : World) (call : Call) where
     seccomp_alike op flags bytes asks false true = inl refl
     seccomp_alike op flags bytes asks false false = read_alike op flags bytes asks (program_of bytes)
 
+    -- a request to a ring comes to the same
+    request_alike : (request : Request) → request_effect (host_of world) (caller_over one world process) request
+        ≡ request_effect (host_of world) (caller_over other world process) request
+    request_alike (ask.Stat path) = refl
+    request_alike (ask.Open path flags) = refl
+    request_alike (ask.Socket family) = refl
+    request_alike (ask.Mode mode) = refl
+
     operation_alike : (operation : Operation) → asked_of world.calls call ≡ Does operation
         → Outcome (applied world call.pid process (effect_of (host_of world) (caller_over one world process) operation))
         (applied world call.pid process (effect_of (host_of world) (caller_over other world process) operation))
     operation_alike (d.See path) asks = inl refl
     operation_alike (d.Open flags mode path) asks = inl refl
-    operation_alike (d.Create path) asks = inl refl
+    operation_alike (d.Create mode path) asks = inl refl
     operation_alike (d.Truncate path) asks = inl refl
     operation_alike (d.Execve path) asks = inl refl
     operation_alike (d.SetMode mode) asks = inl refl
@@ -334,6 +344,9 @@ module _ (one other : List (List Insn)) (world : World) (call : Call) where
     operation_alike (d.Prctl option value third fourth fifth) asks = inl refl
     operation_alike (d.Seccomp op flags bytes) asks = seccomp_alike op flags bytes asks (not (eqb op 1 && eqb flags 0))
         (not (process.creds.no_new_privs || has process.creds.effective cap_sys_admin))
+    operation_alike d.SetUpRing asks = inl refl
+    operation_alike (d.Submit request) asks = inl (ap (λ effect. applied world call.pid process (cond process.creds.ring effect (f.Refuse ebadf)))
+        (request_alike request))
     operation_alike (d.Plain cap) asks = inl refl
 
     asked_alike : (asked : Asked) → asked_of world.calls call ≡ asked
@@ -386,7 +399,7 @@ calls_moved old world pid process true e = by (nat_lt (length world.namespaces) 
 calls_applied : (world : World) (pid : ℕ) (process : Process) (effect : Effect) → (applied world pid process effect).1.calls ≡ world.calls
 calls_applied world pid process (f.Refuse errno) = refl
 calls_applied world pid process (f.Answer value) = refl
-calls_applied world pid process (f.SetCreds creds) = refl
+calls_applied world pid process (f.SetCreds value creds) = refl
 calls_applied world pid process (f.SetTable table) = refl
 calls_applied world pid process (f.Push program) = refl
 calls_applied world pid process (f.Child own) = by (nat_lt (length world.processes) 1024)

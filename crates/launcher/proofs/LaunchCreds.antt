@@ -503,6 +503,7 @@ module _ (uid amb i kept : ℕ) (file : FileCreds) (nosuid : Bool) (creds : Cred
         inheritable_effective = subst (λ n. IsWithin creds.inheritable (union n kept)) (sym s.full) s.inheritable;
         root = λ zero'. subst (IsWithin creds.bounding) (sym s.full)
             (s.root (ap (λ n. eqb n 0) (sym (ap (λ (ids : Ids). ids.effective) uids_are) ∙ zero')));
+        no_ring = refl;
       }
 
   pub executed : (now : Creds) → after_exec creds file nosuid ≡ Ok now → IsLaunchedCreds kept now

@@ -158,7 +158,7 @@ module _ (table : calls.Table) (site : Site) (calls' : HasLaunchCalls table.call
     abbrev marked : Bool → Creds → Result Creds ℕ
     marked mdwe c = cond mdwe (Ok (after_set_mdwe c)) (Err einval)
 
-    mark_set : (mdwe : Bool) (c : Creds) → cond mdwe (SetCreds (after_set_mdwe c)) (Refuse einval) ≡ creds_effect (marked mdwe c)
+    mark_set : (mdwe : Bool) (c : Creds) → cond mdwe (SetCreds 0 (after_set_mdwe c)) (Refuse einval) ≡ creds_effect (marked mdwe c)
     mark_set true c = refl
     mark_set false c = refl
 

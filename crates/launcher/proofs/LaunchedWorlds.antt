@@ -294,6 +294,7 @@ launched_is_world settings table site wanted plan last steps whole arch refusing
       inheritable_bounding = l.as_launched.inheritable_bounding;
       inheritable_effective = inherits_effective table site wanted plan last whole l;
       root = l.as_launched.root;
+      no_ring = l.as_launched.no_ring;
       rooted = begins plan can.begins_at_root;
       ordered = ascending_is_ordered plan can.places_ascend;
       plain = plain;

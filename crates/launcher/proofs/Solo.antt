@@ -137,7 +137,7 @@ module _ (table : calls.Table) (site : Site) where
 
   -- the host, as a rule sees it
   abbrev pub own_host : Host
-  own_host = record { rows = row_at site.rows; families = table.families; mdwe = has_mdwe site }
+  own_host = record { rows = row_at site.rows; families = table.families; mdwe = has_mdwe site; rings = site.io_uring }
 
   -- a call of the launch that changes credentials, as this host has it
   pub makes_creds_here : (Q R : Creds → Type 0) (name : List ℕ) (one two three : ℕ) (payload : Payload) (rule' : Rule) (operation : Operation)

@@ -55,6 +55,7 @@ pub record IsLaunchedCreds (kept : ℕ) (creds : Creds) : Type 0 where
   pub inheritable_bounding : IsWithin creds.inheritable creds.bounding
   pub inheritable_effective : IsWithin creds.inheritable (union creds.effective kept)
   pub root : creds.uids.effective ≡ 0 → IsWithin creds.bounding creds.effective
+  pub no_ring : creds.ring ≡ false
 
 -- what a launch that ends well leaves: one process, which lives alone in its namespace, with the programs in their
 -- order and the plan as its table
