@@ -54,7 +54,7 @@ pub use filter_settings::{
     CallData, CallLine, CallTable, CallsError, Decision, Insn, Program, is_known, linux_numbers,
     read_calls,
 };
-pub use kernel_model::kernel_calls::{Bytes, Call, IdList, Payload, Rule, fits};
+pub use kernel_model::kernel_calls::{Bytes, Call, IdList, Payload, Request, Rule, fits};
 pub use kernel_model::{
     Flags, Group, MountStep, MountTable, Reply, Row, RowKind, SiteTable, User, What, World,
 };

@@ -80,7 +80,7 @@ at_place P (y ∷ xs) zero x all e = let same : y ≡ x = cc in subst P same all
 at_place P (y ∷ xs) (suc at) x all e = at_place P xs at x all.1 e
 
 -- no request executes a file
-without_ring : (passes submits : Bool) → (passes || (false && submits)) ≡ true → passes ≡ true
+pub without_ring : (passes submits : Bool) → (passes || (false && submits)) ≡ true → passes ≡ true
 without_ring true submits e = refl
 without_ring false submits e = e
 

@@ -1,7 +1,7 @@
 -- The calls that are chosen for a row show what is wished of it.
 use Rattle.std.proofs.Common.{◌≡◌, ℕ, Bool, true, false, List, [], ◌∷◌, ◌++◌, Some, refl, ap, ◌∙◌, sym, subst, cond, append_assoc}
 use Rattle.std.proofs.Common.{inl, inr}
-use Rattle.std.specs.Prelude.{slice_get, not, ◌&&◌}
+use Rattle.std.specs.Prelude.{slice_get, not, ◌&&◌, ◌||◌}
 use Rattle.std.specs.Option.{option_map_or}
 use Rattle.std.proofs.lemmas.Bool.{and_parts, not-true}
 use Rattle.ceilings.specs.abs_path.Paths.{Path}
@@ -19,7 +19,7 @@ use Rattle.ceilings.specs.kernel_model.declared.kernel_calls.call.Call.{Call}
 use Rattle.ceilings.specs.kernel_model.declared.kernel_calls.payload.Payload.TheVariants.{OnePath}
 use Rattle.ceilings.specs.kernel_model.Effects.{SetCreds}
 use Rattle.ceilings.specs.kernel_model.World.{World}
-use Rattle.ceilings.specs.kernel_laws.Bound.{is_barred, is_to_exec, can_reach, caps_at, power_of, runs_plainly}
+use Rattle.ceilings.specs.kernel_laws.Bound.{can_ask, is_barred, is_to_exec, can_reach, caps_at, power_of, runs_plainly}
 use Rattle.ceilings.specs.kernel_laws.Denied.{Shows}
 use Rattle.ceilings.specs.kernel_laws.declared.question_types.kind.CallKind.TheVariants.{ForPath}
 use Rattle.ceilings.specs.kernel_laws.declared.question_types.wish.Wish.{Wish}
@@ -28,9 +28,9 @@ use Rattle.ceilings.specs.kernel_laws.declared.question_types.wish.Wish.TheVaria
 use Rattle.ceilings.specs.kernel_laws.declared.question_types.power.Power.{Power}
 use Rattle.ceilings.specs.kernel_laws.declared.question_types.power.Power.TheVariants.{None as Nowise}
 use Rattle.ceilings.specs.kernel_laws.declared.question_types.question.Question.TheVariants as asking
-use Rattle.ceilings.specs.kernel_laws.Launched.{Launch, IsLaunched, lets, can_make_user}
-use Rattle.ceilings.specs.kernel_laws.Kinds.{path_payload}
-use Rattle.ceilings.specs.kernel_laws.Reach.{fits, reaches, runs_unmarked}
+use Rattle.ceilings.specs.kernel_laws.Launched.{Launch, IsLaunched, lets, can_make_user, can_submit}
+use Rattle.ceilings.specs.kernel_laws.Kinds.{path_payload, wish_request}
+use Rattle.ceilings.specs.kernel_laws.Reach.{fits, mount_wish, reaches, runs_unmarked}
 use Rattle.ceilings.specs.kern_mounts.declared.step.Flags.{Flags}
 use Rattle.ceilings.specs.kernel_ways.Laws.{IsFit}
 use Rattle.ceilings.specs.kernel_ways.Offers.{Offers, RunsProgram}
@@ -42,6 +42,10 @@ use Rattle.ceilings.proofs.OfKernelWays.Exposing.{HasPower}
 use Rattle.ceilings.proofs.OfKernelWays.Gains.{Basis, not_refused}
 use Rattle.ceilings.proofs.OfKernelWays.Rows.{IsKnown, known_at}
 use Rattle.ceilings.proofs.OfKernelWays.Showing.{calls_show}
+use Rattle.ceilings.proofs.OfKernelWays.Shown.{without_ring}
+use Rattle.ceilings.proofs.OfKernelWays.ByRing.{read_asked, see_asked, write_asked}
+use Rattle.open_calls.proofs.ChosenCallsRing.{ChosenRing, chosen_ring, ring_shown}
+use Rattle.open_calls.specs.chosen_calls.Chosen.{allowing, submit_calls}
 use Rattle.open_calls.specs.chosen_calls.Chosen.{wish_payload, unmarked, held_off_calls, operation_calls, plain_run_calls, wished_calls, row_calls}
 use Rattle.open_calls.specs.chosen_calls.Chosen.{user_call, pid_inside, call_inside, inside_calls}
 use Rattle.open_calls.specs.chosen_calls.Chosen.{row_inside}
@@ -120,7 +124,7 @@ module _ (world : World) (launch : Launch) (l : IsLaunched launch) (o : Offers l
 
   path_call : (wish : Wish) → IsFit launch.site (asking.Path wish place) → lets launch (ForPath wish) ≡ true
       → (creds : Creds) (power : Power) (flags : ℕ) (test : Flags → Bool) → (x : ExposedAt launch creds power flags target test)
-      → fits wish (flags_at x.now (exposing_path launch power test target.path)) ≡ true
+      → fits (mount_wish target.kind wish) (flags_at x.now (exposing_path launch power test target.path)) ≡ true
       → Admits wish creds target (flags_at x.now (exposing_path launch power test target.path)).no_suid
       → PathCall launch creds x.now wish (exposing_path launch power test target.path)
       (call_by launch (ForPath wish) (wish_payload launch wish (exposing_path launch power test target.path)))
@@ -145,13 +149,13 @@ module _ (world : World) (launch : Launch) (l : IsLaunched launch) (o : Offers l
       let path = exposing_path launch power test target.path in
       let P : Call → Type 0 = λ call. PathCall launch creds x.now ToExec path call in
       let makes = exec_path launch creds x.now path x.found.can_be_named target x.found.is_found (fit target listed) allowed admitted c.line in
-      subst P (sym (call_is c (OnePath path))) (record { operation = d.Execve path; effect = SetCreds (exec_done creds (marks_of target) (flags_at x.now path).no_suid); makes = makes; doable = tt; wanted = refl })
+      subst P (sym (call_is c (OnePath path))) (record { operation = d.Execve path; effect = SetCreds 0 (exec_done creds (marks_of target) (flags_at x.now path).no_suid); makes = makes; doable = tt; wanted = refl })
 
   -- behind any calls that leave the launched table
   behind : (wish : Wish) → IsFit launch.site (asking.Path wish place) → lets launch (ForPath wish) ≡ true
       → {front : List Call} (creds : Creds) → Way launch launch.creds launch.table front creds launch.table
       → (power : Power) (flags : ℕ) (test : Flags → Bool) → (x : ExposedAt launch creds power flags target test)
-      → fits wish (flags_at x.now (exposing_path launch power test target.path)) ≡ true
+      → fits (mount_wish target.kind wish) (flags_at x.now (exposing_path launch power test target.path)) ≡ true
       → Admits wish creds target (flags_at x.now (exposing_path launch power test target.path)).no_suid
       → Shows world (asking.Path wish place) (front ++ operation_calls launch power flags test wish target)
   behind wish fit passes {front = front} creds way power flags test x allowed admitted =
@@ -170,33 +174,78 @@ module _ (world : World) (launch : Launch) (l : IsLaunched launch) (o : Offers l
   free_admits ToWrite free creds b no_suid = tt
   free_admits ToExec free creds b no_suid = not_refused launch l o no_suid creds target b.bounding free
 
+  -- by a request to a ring that is set up behind the way
+  by_ring : (wish : Wish) → not (is_to_exec wish) ≡ true → IsFit launch.site (asking.Path wish place) → ChosenRing launch
+      → {front : List Call} (creds : Creds) → Way launch launch.creds launch.table front creds launch.table
+      → (power : Power) → (x : ExposedAt launch creds power ms_remount_bind target (allowing wish target))
+      → Shows world (asking.Path wish place) (front ++ (exposing_calls launch power ms_remount_bind (allowing wish target) target.path
+      ++ submit_calls launch (wish_request wish (exposing_path launch power (allowing wish target) target.path))))
+  by_ring ToSee off fit c {front = front} creds way power x =
+      let path = exposing_path launch power (allowing ToSee target) target.path in
+      let calls = exposing_calls launch power ms_remount_bind (allowing ToSee target) target.path in
+      let a = see_asked launch creds x.now path x.found.can_be_named target x.found.is_found c.ring in
+      let shown = ring_shown world launch s c (asking.Path ToSee place) (front ++ calls) creds x.now (way_join way x.way) (wish_request ToSee path) a.operation a.effect a.makes a.doable (path, target, a.wanted, listed, x.found.is_found) in
+      subst (Shows world (asking.Path ToSee place)) (append_assoc front calls (submit_calls launch (wish_request ToSee path))) shown
+  by_ring ToRead off fit c {front = front} creds way power x =
+      let path = exposing_path launch power (allowing ToRead target) target.path in
+      let calls = exposing_calls launch power ms_remount_bind (allowing ToRead target) target.path in
+      let a = read_asked launch creds x.now path x.found.can_be_named target x.found.is_found c.ring in
+      let shown = ring_shown world launch s c (asking.Path ToRead place) (front ++ calls) creds x.now (way_join way x.way) (wish_request ToRead path) a.operation a.effect a.makes a.doable (path, target, a.wanted, listed, x.found.is_found) in
+      subst (Shows world (asking.Path ToRead place)) (append_assoc front calls (submit_calls launch (wish_request ToRead path))) shown
+  by_ring ToWrite off fit c {front = front} creds way power x =
+      let path = exposing_path launch power (allowing ToWrite target) target.path in
+      let calls = exposing_calls launch power ms_remount_bind (allowing ToWrite target) target.path in
+      let a = write_asked launch creds x.now path x.found.can_be_named target x.found.is_found (fit target listed) x.found.is_allowed c.ring in
+      let shown = ring_shown world launch s c (asking.Path ToWrite place) (front ++ calls) creds x.now (way_join way x.way) (wish_request ToWrite path) a.operation a.effect a.makes a.doable (path, target, a.wanted, listed, x.found.is_found) in
+      subst (Shows world (asking.Path ToWrite place)) (append_assoc front calls (submit_calls launch (wish_request ToWrite path))) shown
+  by_ring ToExec off fit c creds way power x = cc
+
+  -- the path by which the row is named for the wish
+  abbrev place_named : Power → Wish → Path
+  place_named power wish = exposing_path launch power (allowing wish target) target.path
+
+  -- by a call, else by a ring
+  asked_behind : (wish : Wish) → IsFit launch.site (asking.Path wish place) → can_ask launch wish ≡ true → IsFree launch wish target
+      → {front : List Call} (creds : Creds) → Way launch launch.creds launch.table front creds launch.table → Basis launch creds
+      → (power : Power) → HasPower launch creds power → reaches power launch.table target.path (mount_wish target.kind wish) ≡ true
+      → Shows world (asking.Path wish place) (front ++ wished_calls launch power wish target)
+  asked_behind wish fit asks free {front = front} creds way basis power h e = by (lets launch (ForPath wish)) refl asks
+    where
+      x : ExposedAt launch creds power ms_remount_bind target (allowing wish target)
+      x = exposed_for launch l o creds target own_known (mount_wish target.kind wish) power h e
+
+      by : (b : Bool) → lets launch (ForPath wish) ≡ b → (b || (not (is_to_exec wish) && can_submit launch)) ≡ true
+          → Shows world (asking.Path wish place) (front ++ (exposing_calls launch power ms_remount_bind (allowing wish target) target.path
+          ++ cond b (call_by launch (ForPath wish) (wish_payload launch wish (place_named power wish)) ∷ [])
+          (submit_calls launch (wish_request wish (place_named power wish)))))
+      by true passes more = behind wish fit passes creds way power ms_remount_bind (allowing wish target) x x.found.is_allowed
+          (free_admits wish free creds basis (flags_at x.now (place_named power wish)).no_suid)
+      by false stops more =
+          let both = and_parts (not (is_to_exec wish)) (can_submit launch) more in
+          by_ring wish both.0 fit (chosen_ring launch l both.1) creds way power x
+
   -- on the launched table
-  near : (wish : Wish) → IsFit launch.site (asking.Path wish place) → lets launch (ForPath wish) ≡ true → IsFree launch wish target
-      → reaches Nowise launch.table target.path wish ≡ true → Shows world (asking.Path wish place) (wished_calls launch Nowise wish target)
-  near wish fit passes free e =
-      let x = exposed_for launch l o launch.creds target own_known wish Nowise (inl refl) e in
-      behind wish fit passes launch.creds here Nowise ms_remount_bind (fits wish) x x.found.is_allowed
-      (free_admits wish free launch.creds (basis_launch launch l o)
-      (flags_at x.now (exposing_path launch Nowise (fits wish) target.path)).no_suid)
+  near : (wish : Wish) → IsFit launch.site (asking.Path wish place) → can_ask launch wish ≡ true → IsFree launch wish target
+      → reaches Nowise launch.table target.path (mount_wish target.kind wish) ≡ true
+      → Shows world (asking.Path wish place) (wished_calls launch Nowise wish target)
+  near wish fit asks free e = asked_behind wish fit asks free launch.creds here (basis_launch launch l o) Nowise (inl refl) e
 
   -- on what CAP_SYS_ADMIN makes of it
-  far : (wish : Wish) → IsFit launch.site (asking.Path wish place) → lets launch (ForPath wish) ≡ true → IsFree launch wish target
-      → (power_of launch ≡ Nowise → ⊥) → reaches (power_of launch) launch.table target.path wish ≡ true
+  far : (wish : Wish) → IsFit launch.site (asking.Path wish place) → can_ask launch wish ≡ true → IsFree launch wish target
+      → (power_of launch ≡ Nowise → ⊥) → reaches (power_of launch) launch.table target.path (mount_wish target.kind wish) ≡ true
       → Shows world (asking.Path wish place) (gaining launch program cap_sys_admin ++ wished_calls launch (power_of launch) wish target)
-  far wish fit passes free some e =
+  far wish fit asks free some e =
       let a = admin_gained launch l o program p some in
-      let x = exposed_for launch l o a.creds target own_known wish (power_of launch) (inr (a.holds, refl)) e in
-      behind wish fit passes a.creds a.way (power_of launch) ms_remount_bind (fits wish) x x.found.is_allowed
-      (free_admits wish free a.creds a.basis
-      (flags_at x.now (exposing_path launch (power_of launch) (fits wish) target.path)).no_suid)
+      asked_behind wish fit asks free a.creds a.way a.basis (power_of launch) (inr (a.holds, refl)) e
 
-  near_or_far : (wish : Wish) → IsFit launch.site (asking.Path wish place) → lets launch (ForPath wish) ≡ true → IsFree launch wish target
-      → reaches (power_of launch) launch.table target.path wish ≡ true → (b : Bool) → reaches Nowise launch.table target.path wish ≡ b
+  near_or_far : (wish : Wish) → IsFit launch.site (asking.Path wish place) → can_ask launch wish ≡ true → IsFree launch wish target
+      → reaches (power_of launch) launch.table target.path (mount_wish target.kind wish) ≡ true
+      → (b : Bool) → reaches Nowise launch.table target.path (mount_wish target.kind wish) ≡ b
       → Shows world (asking.Path wish place)
       (cond b (wished_calls launch Nowise wish target)
       (gaining launch program cap_sys_admin ++ wished_calls launch (power_of launch) wish target))
-  near_or_far wish fit passes free e true n = near wish fit passes free n
-  near_or_far wish fit passes free e false n = far wish fit passes free (λ none'. let yes : reaches Nowise launch.table target.path wish ≡ true = ap (λ power. reaches power launch.table target.path wish) (sym none') ∙ e in cc) e
+  near_or_far wish fit asks free e true n = near wish fit asks free n
+  near_or_far wish fit asks free e false n = far wish fit asks free (λ none'. let yes : reaches Nowise launch.table target.path (mount_wish target.kind wish) ≡ true = ap (λ power. reaches power launch.table target.path (mount_wish target.kind wish)) (sym none') ∙ e in cc) e
 
   -- a barred row is run where marks are not looked at
   plain_behind : IsFit launch.site (asking.Path ToExec place) → lets launch (ForPath ToExec) ≡ true
@@ -226,7 +275,7 @@ module _ (world : World) (launch : Launch) (l : IsLaunched launch) (o : Offers l
       let calls = exposing_calls launch power ms_remount_bind (fits ToExec) target.path in
       let u = user_called launch l user creds x.now in
       let c = chosen launch l (ForPath ToExec) passes in
-      let P : Call → Type 0 = λ call. MakesIn launch (entered creds) x.now (pid_inside launch) (d.Execve path) call (SetCreds (after_run launch creds x.now (pid_inside launch) u.small path x.found.can_be_named target x.found.is_found (fit target listed) x.found.is_allowed known_caps)) in
+      let P : Call → Type 0 = λ call. MakesIn launch (entered creds) x.now (pid_inside launch) (d.Execve path) call (SetCreds 0 (after_run launch creds x.now (pid_inside launch) u.small path x.found.can_be_named target x.found.is_found (fit target listed) x.found.is_allowed known_caps)) in
       let last = call_inside launch (ForPath ToExec) (OnePath path) in
       let m = subst P (sym (inside_is launch c (OnePath path))) (exec_inside launch creds x.now (pid_inside launch) u.small path x.found.can_be_named target x.found.is_found (fit target listed) x.found.is_allowed known_caps c.line) in
       let shown = calls_show_inside launch launch.creds creds launch.table x.now world (front ++ calls) (asking.Path ToExec place) (pid_inside launch) (user_call launch) last (d.Execve path) _ s (way_join way x.way) u.fit u.inside m tt (path, target, refl, listed, x.found.is_found) in
@@ -250,11 +299,11 @@ module _ (world : World) (launch : Launch) (l : IsLaunched launch) (o : Offers l
       (exposed_for launch l o a.creds target own_known ToExec (power_of launch) (inr (a.holds, refl)) e)
 
   pub parts : (wish : Wish) → can_reach launch (power_of launch) wish target ≡ true
-      → (lets launch (ForPath wish) ≡ true) × (reaches (power_of launch) launch.table target.path wish ≡ true) ×
+      → (can_ask launch wish ≡ true) × (reaches (power_of launch) launch.table target.path (mount_wish target.kind wish) ≡ true) ×
       ((((is_to_exec wish && is_barred launch target) && not (runs_plainly launch (power_of launch) target)) && not (can_make_user launch)) ≡ false)
   parts wish e =
-      let both = and_parts (lets launch (ForPath wish) && reaches (power_of launch) launch.table target.path wish) (not (((is_to_exec wish && is_barred launch target) && not (runs_plainly launch (power_of launch) target)) && not (can_make_user launch))) e in
-      let inner = and_parts (lets launch (ForPath wish)) (reaches (power_of launch) launch.table target.path wish) both.0 in
+      let both = and_parts (can_ask launch wish && reaches (power_of launch) launch.table target.path (mount_wish target.kind wish)) (not (((is_to_exec wish && is_barred launch target) && not (runs_plainly launch (power_of launch) target)) && not (can_make_user launch))) e in
+      let inner = and_parts (can_ask launch wish) (reaches (power_of launch) launch.table target.path (mount_wish target.kind wish)) both.0 in
       (inner.0, inner.1, not-true (((is_to_exec wish && is_barred launch target) && not (runs_plainly launch (power_of launch) target)) && not (can_make_user launch)) both.1)
 
   -- what execve holds off: on the launched table, on what CAP_SYS_ADMIN makes of it, or in a user namespace
@@ -269,19 +318,19 @@ module _ (world : World) (launch : Launch) (l : IsLaunched launch) (o : Offers l
   held_shown fit passes e false n false f true u held = inside_shown fit passes u e (reaches Nowise launch.table target.path ToExec) refl
   held_shown fit passes e false n false f false u held = cc
 
-  exec_shown : IsFit launch.site (asking.Path ToExec place) → lets launch (ForPath ToExec) ≡ true
+  exec_shown : IsFit launch.site (asking.Path ToExec place) → can_ask launch ToExec ≡ true
       → reaches (power_of launch) launch.table target.path ToExec ≡ true → (b : Bool) → is_barred launch target ≡ b
       → ((b && not (runs_plainly launch (power_of launch) target)) && not (can_make_user launch)) ≡ false
       → Shows world (asking.Path ToExec place) (cond b (held_off_calls launch program target)
       (cond (reaches Nowise launch.table target.path ToExec) (wished_calls launch Nowise ToExec target)
       (gaining launch program cap_sys_admin ++ wished_calls launch (power_of launch) ToExec target)))
-  exec_shown fit passes e true bar held = held_shown fit passes e (runs_plainly launch Nowise target) refl
+  exec_shown fit asks e true bar held = held_shown fit (without_ring (lets launch (ForPath ToExec)) (can_submit launch) asks) e (runs_plainly launch Nowise target) refl
       (runs_plainly launch (power_of launch) target) refl (can_make_user launch) refl held
-  exec_shown fit passes e false bar held = near_or_far ToExec fit passes bar e (reaches Nowise launch.table target.path ToExec) refl
+  exec_shown fit asks e false bar held = near_or_far ToExec fit asks bar e (reaches Nowise launch.table target.path ToExec) refl
 
   pub row_shown : (wish : Wish) → IsFit launch.site (asking.Path wish place) → can_reach launch (power_of launch) wish target ≡ true
       → Shows world (asking.Path wish place) (row_calls launch program wish target)
   row_shown ToSee fit e = let x = parts ToSee e in near_or_far ToSee fit x.0 tt x.1 (reaches Nowise launch.table target.path ToSee) refl
   row_shown ToRead fit e = let x = parts ToRead e in near_or_far ToRead fit x.0 tt x.1 (reaches Nowise launch.table target.path ToRead) refl
-  row_shown ToWrite fit e = let x = parts ToWrite e in near_or_far ToWrite fit x.0 tt x.1 (reaches Nowise launch.table target.path ToWrite) refl
+  row_shown ToWrite fit e = let x = parts ToWrite e in near_or_far ToWrite fit x.0 tt x.1 (reaches Nowise launch.table target.path (mount_wish target.kind ToWrite)) refl
   row_shown ToExec fit e = let x = parts ToExec e in exec_shown fit x.0 x.1 (is_barred launch target) refl x.2

@@ -12,6 +12,7 @@ pub mod Running
 pub mod Gained
 pub mod Complete
 pub mod ChosenCallsInside
+pub mod ChosenCallsRing
 pub mod ChosenCallsRows
 pub mod ChosenCallsIds
 pub mod Shown

@@ -11,7 +11,7 @@ use Rattle.ceilings.specs.site_table.declared.row.Row.{Row}
 use Rattle.ceilings.specs.kernel_model.declared.kernel_calls.call.Call.{Call}
 use Rattle.ceilings.specs.linux_numbers.Capabilities.{cap_sys_admin}
 use Rattle.ceilings.specs.kernel_laws.Bound.{can_have_for, ceiling, if_listed, is_call_open, is_open, power_of}
-use Rattle.ceilings.specs.kernel_laws.Reach.{reaches}
+use Rattle.ceilings.specs.kernel_laws.Reach.{mount_wish, reaches}
 use Rattle.ceilings.specs.kernel_laws.declared.question_types.power.Power.TheVariants.{None as Nowise}
 use Rattle.ceilings.specs.kernel_model.kernel_calls.Rules.{rule_of}
 use Rattle.ceilings.specs.kernel_laws.Launched.{Launch}
@@ -33,10 +33,10 @@ module _ (launch : Launch) (program : Path) (place : ℕ) where
   row_is wish row e = sym (ap (λ o. option_map_or (row_calls launch program wish) o []) e)
 
   -- a row that is not held off and to which no launched entry leads
-  pub far_row : (wish : Wish) (row : Row) → is_held_off launch wish row ≡ false → reaches Nowise launch.table row.path wish ≡ false
+  pub far_row : (wish : Wish) (row : Row) → is_held_off launch wish row ≡ false → reaches Nowise launch.table row.path (mount_wish row.kind wish) ≡ false
       → gaining launch program cap_sys_admin ++ wished_calls launch (power_of launch) wish row ≡ row_calls launch program wish row
   far_row wish row free none = sym (
-      ap (λ b. cond b (held_off_calls launch program row) (cond (reaches Nowise launch.table row.path wish) (wished_calls launch Nowise wish row) (gaining launch program cap_sys_admin ++ wished_calls launch (power_of launch) wish row))) free
+      ap (λ b. cond b (held_off_calls launch program row) (cond (reaches Nowise launch.table row.path (mount_wish row.kind wish)) (wished_calls launch Nowise wish row) (gaining launch program cap_sys_admin ++ wished_calls launch (power_of launch) wish row))) free
       ∙ ap (λ b. cond b (wished_calls launch Nowise wish row) (gaining launch program cap_sys_admin ++ wished_calls launch (power_of launch) wish row)) none)
 
   pub open_call : (line : CallLine) → slice_get (every_call launch.calls) place ≡ Some line → is_open launch (asking.Call place) ≡ true

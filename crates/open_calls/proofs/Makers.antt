@@ -15,26 +15,27 @@ use Rattle.ceilings.specs.kernel_model.kernel_calls.Rules.{rule_of}
 use Rattle.ceilings.specs.kernel_model.kernel_calls.Operation.{Clone, Does, asked_by, asked_of}
 use Rattle.ceilings.specs.kernel_model.declared.kernel_calls.call.Call.{Call}
 use Rattle.ceilings.specs.kernel_model.declared.kernel_calls.payload.Payload.TheVariants.{Nothing, Number, OnePath}
+use Rattle.ceilings.specs.kernel_model.declared.kernel_calls.request.Request.TheVariants.{Socket as AskSocket}
 use Rattle.ceilings.specs.kernel_model.declared.kernel_calls.rule.Rule.{Rule}
-use Rattle.ceilings.specs.kernel_laws.Bound.{is_barred, is_owner, is_to_exec, is_user, can_reach, ceiling, if_listed, is_open}
+use Rattle.ceilings.specs.kernel_laws.Bound.{can_ask, is_barred, is_owner, is_to_exec, is_user, can_reach, ceiling, if_listed, is_open}
 use Rattle.ceilings.specs.kernel_laws.Bound.{power_of, runs_plainly}
 use Rattle.ceilings.specs.kernel_laws.declared.question_types.kind.CallKind.{CallKind}
 use Rattle.ceilings.specs.kernel_laws.declared.question_types.kind.CallKind.TheVariants.{ForFamily, ForPath, ForNamespace, RemovesMounts}
-use Rattle.ceilings.specs.kernel_laws.declared.question_types.kind.CallKind.TheVariants.{OpensMode, SchedulesRealtime, SetsMode, SetsRealtime, TakesUid, TakesGid}
+use Rattle.ceilings.specs.kernel_laws.declared.question_types.kind.CallKind.TheVariants.{CreatesMode, OpensMode, SchedulesRealtime, SetsMode, SetsRealtime, TakesUid, TakesGid}
 use Rattle.ceilings.specs.kernel_laws.declared.question_types.question.Question.{Question}
 use Rattle.questions.specs.linux_numbers.declared.namespaces.NamespaceType.{NamespaceType}
 use Rattle.questions.specs.linux_numbers.declared.namespaces.NamespaceType.TheVariants.{User}
 use Rattle.ceilings.specs.kernel_laws.declared.question_types.wish.Wish.{Wish}
-use Rattle.ceilings.specs.kernel_laws.declared.question_types.wish.Wish.TheVariants.{Exec as ToExec}
+use Rattle.ceilings.specs.kernel_laws.declared.question_types.wish.Wish.TheVariants.{Write as ToWrite, Exec as ToExec}
 use Rattle.ceilings.specs.kernel_laws.declared.question_types.power.Power.{Power}
 use Rattle.ceilings.specs.kernel_laws.declared.question_types.power.Power.TheVariants.{None as Nowise, Unmount as Unmounting}
 use Rattle.ceilings.specs.kernel_laws.declared.question_types.power.Power.TheVariants.{Mount as Mounting}
 use Rattle.ceilings.specs.kernel_laws.declared.question_types.question.Question.TheVariants as asking
-use Rattle.ceilings.specs.kernel_laws.Kinds.{no_words, one_word, realtime_payload, space_payload}
-use Rattle.ceilings.specs.kernel_laws.Launched.{Launch, IsLaunched, lets, can_make_user, launch_of}
+use Rattle.ceilings.specs.kernel_laws.Kinds.{mode_request, no_words, one_word, realtime_payload, space_payload, wish_request}
+use Rattle.ceilings.specs.kernel_laws.Launched.{Launch, IsLaunched, lets, can_make_user, can_submit, launch_of}
 use Rattle.ceilings.specs.kernel_laws.PlainCalls.{bare_call}
 use Rattle.ceilings.specs.linux_numbers.Namespaces.{flag_of}
-use Rattle.ceilings.specs.kernel_laws.Reach.{fits, reaches, runs_marked, runs_unmarked}
+use Rattle.ceilings.specs.kernel_laws.Reach.{fits, mount_wish, reaches, runs_marked, runs_unmarked}
 use Rattle.ceilings.specs.kern_mounts.declared.step.Flags.{Flags}
 use Rattle.ceilings.specs.kernel_ways.Entering.{pid_in}
 use Rattle.ceilings.specs.kernel_ways.Uncovering.{covering, umount_calls}
@@ -42,6 +43,8 @@ use Rattle.ceilings.specs.kernel_ways.Ways.{CallAt, place_of, rule_there}
 use Rattle.ceilings.proofs.OfKernelWays.Choices as choices
 use Rattle.ceilings.proofs.OfKernelWays.Lines.{choice_of, first_by}
 use Rattle.open_calls.specs.chosen_calls.Chosen.{unmarked, is_held_off, held_off_calls, operation_calls, plain_run_calls, wished_calls}
+use Rattle.open_calls.specs.chosen_calls.Chosen.{allowing, created_by, created_calls, created_later, creating_calls, made_socket_calls, path_calls}
+use Rattle.open_calls.specs.chosen_calls.Chosen.{submit_calls, writable}
 use Rattle.open_calls.specs.chosen_calls.Chosen.{user_call, pid_inside, call_inside, inside_calls}
 use Rattle.open_calls.specs.chosen_calls.Chosen.{row_inside, row_calls, runner, taking, id_at_power, id_by_cap, id_by_row, id_calls}
 use Rattle.open_calls.specs.chosen_calls.Chosen.{uid_calls, gid_calls, plain_cap, plain_line, plain_calls, socket_payload, socket_calls}
@@ -89,6 +92,23 @@ module _ (launch : Launch) where
       join (exposing_calls launch power flags test row.path)
       (call_by launch (ForPath wish) (wish_payload launch wish (exposing_path launch power test row.path)) ∷ []) (exposing power flags test row.path)
       (refl, tt)
+
+  -- a call, or a ring
+  asks : (wish : Wish) (path : Path) → AreFirst (path_calls launch wish path)
+  asks wish path = either (lets launch (ForPath wish)) (call_by launch (ForPath wish) (wish_payload launch wish path) ∷ [])
+      (submit_calls launch (wish_request wish path)) (refl, tt) (refl, (refl, tt))
+
+  wished : (power : Power) (wish : Wish) (row : Row) → AreFirst (wished_calls launch power wish row)
+  wished power wish row =
+      let path = exposing_path launch power (allowing wish row) row.path in
+      join (exposing_calls launch power ms_remount_bind (allowing wish row) row.path) (path_calls launch wish path)
+      (exposing power ms_remount_bind (allowing wish row) row.path) (asks wish path)
+
+  creating : (power : Power) (row : Row) → AreFirst (creating_calls launch power row)
+  creating power row =
+      join (exposing_calls launch power ms_remount_bind (allowing ToWrite row) row.path)
+      (call_by launch CreatesMode (OnePath (exposing_path launch power (allowing ToWrite row) row.path)) ∷ [])
+      (exposing power ms_remount_bind (allowing ToWrite row) row.path) (refl, tt)
 
   runs : (power : Power) (row : Row) → AreFirst (run_calls launch power row)
   runs power row =
@@ -232,20 +252,19 @@ module _ (launch : Launch) (entered : can_make_user launch ≡ true → IsInside
     later = gaining launch program cap_sys_admin ++ wished_calls launch (power_of launch) wish row
 
     abbrev others : List Call
-    others = cond (reaches Nowise launch.table row.path wish) at_first later
+    others = cond (reaches Nowise launch.table row.path (mount_wish row.kind wish)) at_first later
 
     others_first : AreFirst others
-    others_first = either (reaches Nowise launch.table row.path wish) at_first later
-        (operation launch Nowise ms_remount_bind (fits wish) wish row)
+    others_first = either (reaches Nowise launch.table row.path (mount_wish row.kind wish)) at_first later (wished launch Nowise wish row)
         (join (gaining launch program cap_sys_admin) (wished_calls launch (power_of launch) wish row)
-        (gains launch program cap_sys_admin) (operation launch (power_of launch) ms_remount_bind (fits wish) wish row))
+        (gains launch program cap_sys_admin) (wished launch (power_of launch) wish row))
 
     for_row : can_reach launch (power_of launch) wish row ≡ true → Made (row_calls launch program wish row)
     for_row open' = by (is_held_off launch wish row) refl
       where
         by : (b : Bool) → is_held_off launch wish row ≡ b → Made (cond b (held_off_calls launch program row) others)
         by true e =
-            let passes = lets launch (ForPath wish) && reaches (power_of launch) launch.table row.path wish in
+            let passes = can_ask launch wish && reaches (power_of launch) launch.table row.path (mount_wish row.kind wish) in
             held_off row (runs_plainly launch Nowise row) (runs_plainly launch (power_of launch) row)
             (held_inside (is_to_exec wish) (is_barred launch row) (runs_plainly launch (power_of launch) row) (can_make_user launch)
             passes open' e)
@@ -282,8 +301,9 @@ module _ (launch : Launch) (entered : can_make_user launch ≡ true → IsInside
 
   for_socket : (line : CallLine) → AreFirst (socket_calls launch program line)
   for_socket line =
-      join (gaining_if launch program line.cap) (call_by launch (ForFamily line.number) (socket_payload launch line.number) ∷ [])
-      (gains_if launch program line.cap) (refl, tt)
+      join (gaining_if launch program line.cap) (made_socket_calls launch line.number) (gains_if launch program line.cap)
+      (either (lets launch (ForFamily line.number)) (call_by launch (ForFamily line.number) (socket_payload launch line.number) ∷ [])
+      (submit_calls launch (AskSocket line.number)) (refl, tt) (refl, (refl, tt)))
 
   for_realtime : AreFirst (realtime_calls launch program)
   for_realtime =
@@ -292,9 +312,23 @@ module _ (launch : Launch) (entered : can_make_user launch ≡ true → IsInside
       (join (gaining_if launch program (Some cap_sys_nice)) (call_by launch SetsRealtime realtime_payload ∷ [])
       (gains_if launch program (Some cap_sys_nice)) (refl, tt))
 
+  for_created : (o : Option Row) → AreFirst (created_by launch program o)
+  for_created (Some row) = creating launch Nowise row
+  for_created None = by (writable launch (power_of launch))
+    where
+      by : (o : Option Row) → AreFirst (created_later launch program o)
+      by (Some row) = join (gaining launch program cap_sys_admin) (creating_calls launch (power_of launch) row)
+          (gains launch program cap_sys_admin) (creating launch (power_of launch) row)
+      by None = tt
+
   for_suid : AreFirst (suid_calls launch program)
-  for_suid = either (lets launch SetsMode) (call_by launch SetsMode Nothing ∷ []) (call_by launch OpensMode (OnePath program) ∷ []) (refl, tt)
-      (refl, tt)
+  for_suid =
+      let creates = created_calls launch program in
+      let rings : List Call = cond (can_submit launch) (submit_calls launch mode_request) creates in
+      let opens : List Call = cond (lets launch OpensMode) (call_by launch OpensMode (OnePath program) ∷ []) rings in
+      either (lets launch SetsMode) (call_by launch SetsMode Nothing ∷ []) opens (refl, tt)
+      (either (lets launch OpensMode) (call_by launch OpensMode (OnePath program) ∷ []) rings (refl, tt)
+      (either (can_submit launch) (submit_calls launch mode_request) creates (refl, (refl, tt)) (for_created (writable launch Nowise))))
 
   for_uid : (id : ℕ) → AreFirst (uid_calls launch program id)
   for_uid id = either (id == launch.creds.uids.effective) []

@@ -46,8 +46,8 @@ runnable {path = path} r = record {
 
 pub runs_at : (launch : Launch) → IsLaunched launch → Offers launch → (no_suid : Bool) (creds : Creds) (table : Table) (path : Path)
     (target : Row) → creds.bounding ≡ launch.creds.bounding → RunnableAt no_suid launch table path target
-    → Makes launch creds table (d.Execve path) (run_call launch path) (SetCreds (exec_done creds (marks_of target) no_suid))
+    → Makes launch creds table (d.Execve path) (run_call launch path) (SetCreds 0 (exec_done creds (marks_of target) no_suid))
 runs_at launch l o no_suid creds table path target bounding r =
     let c = chosen launch l (ForPath ToExec) o.execs in
-    let P : Call → Type 0 = λ call. Makes launch creds table (d.Execve path) call (SetCreds (exec_done creds (marks_of target) no_suid)) in
+    let P : Call → Type 0 = λ call. Makes launch creds table (d.Execve path) call (SetCreds 0 (exec_done creds (marks_of target) no_suid)) in
     subst P (sym (call_is c (OnePath path))) (runs_by launch l o no_suid c.line creds table target bounding (runnable r))

@@ -3,7 +3,7 @@
 ghost use Rattle.std.specs.Prelude.{◌≡◌, ◌++◌, ◌∷◌, [], Contains, true, option_copied, slice_get, IfOk, OnOk, Some};
 ghost use Rattle.std.specs.List.{list_any};
 ghost use Rattle.ceilings.specs.call_table.Table.{every_call};
-ghost use Rattle.open_calls.specs.chosen_calls.Chosen.{calls_for, plain_cap, realtime_calls, space_calls, suid_calls, is_called, plain_calls, plain_line};
+ghost use Rattle.open_calls.specs.chosen_calls.Chosen.{calls_for, plain_cap, realtime_calls, space_calls, is_called, plain_calls, plain_line};
 ghost use Rattle.open_calls.specs.chosen_calls.First.{call_by};
 ghost use Rattle.open_calls.specs.chosen_calls.Makers.{AreMadeByService};
 ghost use Rattle.ceilings.specs.kernel_model.declared.kernel_calls.payload.Payload.TheVariants.{Nothing};
@@ -14,7 +14,7 @@ ghost use Rattle.ceilings.specs.kernel_laws.Launched.{launch_of, lets};
 ghost use Rattle.ceilings.specs.kernel_laws.Questions.{questions};
 ghost use Rattle.ceilings.specs.kernel_ways.Laws.{IsServedWorld};
 ghost use Rattle.ceilings.specs.kernel_ways.Offers.{RunsProgram};
-ghost use Rattle.ceilings.specs.kernel_laws.declared.question_types.question.Question.TheVariants.{Call as CallQuestion, MapWx, Namespace as Ns, Realtime, Socket, SuidBit};
+ghost use Rattle.ceilings.specs.kernel_laws.declared.question_types.question.Question.TheVariants.{Call as CallQuestion, MapWx, Namespace as Ns, Realtime, Socket};
 ghost use Rattle.ceilings.specs.kernel_laws.declared.question_types.kind.CallKind.TheVariants.{MapsWx};
 
 use crate::first::call_of;
@@ -102,14 +102,11 @@ impl Service<'_> {
             return Ok(());
         };
         self.push_gaining_if(calls, line.cap)?;
-        let payload = self.socket_payload(line.number);
-        let kind = CallKind::ForFamily(line.number);
-        calls.push(self.call_by(kind, payload))?;
-        Ok(())
+        self.push_made_socket(calls, line.number)
     }
 
-    // Adds the first call of a kind, which carries nothing.
-    fn push_first(&self, calls: &mut Vec<Call>, kind: CallKind) -> Made<()>
+    /// Adds the first call of a kind, which carries nothing.
+    pub(crate) fn push_first(&self, calls: &mut Vec<Call>, kind: CallKind) -> Made<()>
         requires some_passes { lets (launch_of self.now.world.now) kind ≡ true }
         ensures { OnOk result (calls.new.items ≡ calls.old.items ++ call_by (launch_of self.now.world.now) kind Nothing ∷ []) }
     {
@@ -151,8 +148,8 @@ impl Service<'_> {
         Ok(())
     }
 
-    // Returns whether some call of the kind passes.
-    fn passes(&self, kind: CallKind) -> bool
+    /// Returns whether some call of the kind passes.
+    pub(crate) fn passes(&self, kind: CallKind) -> bool
         ensures { result ≡ lets (launch_of self.now.world.now) kind }
     {
         self.top.rules.let_through(self.world, kind)
@@ -171,20 +168,6 @@ impl Service<'_> {
         }
         self.push_gaining_if(calls, Some(CAP_SYS_NICE))?;
         calls.push(self.call_by(CallKind::SetsRealtime, Payload::Number(SCHED_FIFO)))?;
-        Ok(())
-    }
-
-    // Adds the call that gives a set-id bit: one that only gives a mode if it passes, else open(2) of a file that is made.
-    #[tactic(auto, using(crate::proofs::Opening::makes_pass))]
-    fn push_suid(&self, calls: &mut Vec<Call>) -> Made<()>
-        requires reachable { is_open (launch_of self.now.world.now) SuidBit ≡ true }
-        ensures { OnOk result (calls.new.items ≡ calls.old.items ++ suid_calls (launch_of self.now.world.now) self.now.program.now) }
-    {
-        if self.passes(CallKind::SetsMode) {
-            return self.push_first(calls, CallKind::SetsMode);
-        }
-        let path = self.program.copy(self.alloc)?;
-        calls.push(self.call_by(CallKind::OpensMode, Payload::OnePath(path)))?;
         Ok(())
     }
 

@@ -6,7 +6,7 @@ ghost use Rattle.ceilings.specs.abs_path.Paths.{Path, tail_of, proc};
 ghost use Rattle.ceilings.specs.abs_path.Prefix.{is_prefix, rest_of};
 ghost use Rattle.ceilings.specs.kern_mounts.Split.{Table};
 ghost use Rattle.ceilings.specs.site_table.Table.{row_at};
-ghost use Rattle.open_calls.specs.chosen_calls.Chosen.{operation_calls, inside_calls};
+ghost use Rattle.open_calls.specs.chosen_calls.Chosen.{operation_calls, inside_calls, wished_calls};
 ghost use Rattle.open_calls.specs.chosen_calls.Exposing.{IsLead, PassesFor, exposing_calls, exposing_path, lead, shown_at};
 ghost use Rattle.open_calls.specs.chosen_calls.First.{line_of};
 ghost use Rattle.ceilings.specs.kernel_laws.declared.question_types.kind.CallKind.TheVariants.{ChangesMounts, ForPath, ForNamespace, RemovesMounts};
@@ -15,7 +15,8 @@ ghost use Rattle.questions.specs.linux_numbers.declared.namespaces.NamespaceType
 ghost use Rattle.ceilings.specs.kernel_laws.declared.question_types.power.Power.{Power as MountPower};
 ghost use Rattle.ceilings.specs.kernel_laws.declared.question_types.power.Power.TheVariants.{Unmount as Unmounting};
 ghost use Rattle.ceilings.specs.kernel_laws.Launched.{IsLaunchedWorld, launch_of, lets};
-ghost use Rattle.ceilings.specs.kernel_laws.Reach.{reach_with, reaches_with};
+ghost use Rattle.ceilings.specs.kernel_laws.Bound.{can_ask};
+ghost use Rattle.ceilings.specs.kernel_laws.Reach.{mount_wish, reach_with, reaches_with};
 ghost use Rattle.ceilings.specs.kern_mounts.declared.step.Flags.{Flags};
 ghost use Rattle.ceilings.specs.reach_paths.Needs.{allows};
 ghost use Rattle.ceilings.specs.reach_paths.declared.needs.Need.TheVariants.{ForWish};
@@ -189,8 +190,8 @@ impl Service<'_> {
         Ok(())
     }
 
-    // Adds the calls that expose the row, with these flags of the second mount, where mount(2) does.
-    fn push_exposing(&self, calls: &mut Vec<Call>, flags: u64, aim: &Aim<'_>) -> Made<()>
+    /// Adds the calls that expose the row, with these flags of the second mount, where mount(2) does.
+    pub(crate) fn push_exposing(&self, calls: &mut Vec<Call>, flags: u64, aim: &Aim<'_>) -> Made<()>
         requires served { IsServedWorld self.now.world.now }
         requires aimed { IsAim self.now.world.now aim.now }
         requires passes { PassesFor (launch_of self.now.world.now) aim.now.power }
@@ -241,5 +242,19 @@ impl Service<'_> {
         let payload = self.wish_payload(wish, path);
         calls.push(self.call_by(CallKind::ForPath(wish), payload))?;
         Ok(())
+    }
+
+    /// Adds the calls that expose the row, and the first call for the wish, or a request to a ring if no such call passes.
+    pub(crate) fn push_wished(&self, calls: &mut Vec<Call>, wish: Wish, aim: &Aim<'_>) -> Made<()>
+        requires served { IsServedWorld self.now.world.now }
+        requires aimed { IsAim self.now.world.now aim.now }
+        requires passes { PassesFor (launch_of self.now.world.now) aim.now.power }
+        requires as_wished { aim.now.need ≡ ForWish (mount_wish aim.now.row.now.kind wish) }
+        requires can_be_asked { can_ask (launch_of self.now.world.now) wish ≡ true }
+        ensures { OnOk result (calls.new.items ≡ calls.old.items ++ wished_calls (launch_of self.now.world.now) aim.now.power wish aim.now.row.now) }
+    {
+        self.push_exposing(calls, REMOUNT, aim)?;
+        let path = self.exposing_path(aim)?;
+        self.push_asked(calls, wish, path)
     }
 }

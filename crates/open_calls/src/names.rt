@@ -44,10 +44,13 @@ pub(crate) fn names_of(kind: CallKind) -> &'static [&'static str]
             "chmod", "fchmod", "fchmodat", "mkdir", "mkdirat", "mknod", "mknodat",
         ],
         CallKind::OpensMode => &["open", "openat"],
+        CallKind::CreatesMode => &["creat"],
         CallKind::ChangesMounts => &["mount"],
         CallKind::RemovesMounts => &["umount2"],
         CallKind::SetsCaps => &["capset"],
         CallKind::TakesUid => &["setuid", "setresuid"],
         CallKind::TakesGid => &["setgid", "setresgid", "setgroups"],
+        CallKind::SetsUpRing => &["io_uring_setup"],
+        CallKind::Submits => &["io_uring_enter"],
     }
 }

@@ -14,9 +14,9 @@ ghost use Rattle.ceilings.specs.kernel_laws.declared.question_types.kind.CallKin
 ghost use Rattle.ceilings.specs.kernel_ways.Laws.{IsServedWorld};
 ghost use Rattle.ceilings.specs.Leads.{leads_of};
 
-use crate::exposing::{Aim, REMOUNT, REMOUNT_UNMARKED, lead, number_of, reach_row};
+use crate::exposing::{Aim, REMOUNT_UNMARKED, lead, number_of, reach_row};
 use crate::service::{Made, Service};
-use ceilings::{CAP_SYS_ADMIN, Need, Row, RowLeads, is_barred, reach_by};
+use ceilings::{CAP_SYS_ADMIN, Need, Row, RowLeads, is_barred, mount_wish, reach_by};
 use questions::{Call, Power, Wish, World};
 
 // The row of this number.
@@ -146,17 +146,17 @@ impl Service<'_> {
         requires of_the_row { leads ≡ leads_of (launch_of self.now.world.now).table row.now.path }
         ensures { OnOk result (calls.new.items ≡ calls.old.items ++ row_calls (launch_of self.now.world.now) self.now.program.now wish row.now) }
     {
-        let near = reach_by(self.world, leads, Power::None, wish, row);
+        let needed = mount_wish(row.kind, wish);
+        let near = reach_by(self.world, leads, Power::None, needed, row);
         if is_held_off(self.world, wish, row) {
             return self.push_held_off(calls, near, row);
         }
-        let need = Need::ForWish(wish);
+        let need = Need::ForWish(needed);
         if near.is_some() {
             let power = Power::None;
             let at = number_of(near);
-            return self.push_operation(
+            return self.push_wished(
                 calls,
-                REMOUNT,
                 wish,
                 &Aim {
                     power,
@@ -175,6 +175,6 @@ impl Service<'_> {
             row,
             at,
         };
-        self.push_operation(calls, REMOUNT, wish, &aim)
+        self.push_wished(calls, wish, &aim)
     }
 }

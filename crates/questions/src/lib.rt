@@ -15,4 +15,4 @@ mod tables;
 
 pub use all::questions;
 pub use kernel_laws::question_types::{CallKind, NamespaceType, Power, Question, Verdict, Wish};
-pub use kernel_laws::{Call, IdList, Payload, Reply, Rule, World, fits};
+pub use kernel_laws::{Call, IdList, Payload, Reply, Request, Rule, World, fits};

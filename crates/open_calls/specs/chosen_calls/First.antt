@@ -16,8 +16,8 @@ use Rattle.ceilings.specs.kernel_laws.Launched.{Launch, chosen_words, lets_line}
 use Rattle.ceilings.specs.kernel_laws.declared.question_types.kind.CallKind.{CallKind}
 use Rattle.ceilings.specs.kernel_laws.declared.question_types.kind.CallKind.TheVariants.{ForPath, PlainCall, ForFamily, ForNamespace}
 use Rattle.ceilings.specs.kernel_laws.declared.question_types.kind.CallKind.TheVariants.{MapsWx, ProtectsX, AttachesX, AttachesReadOnlyX, SchedulesRealtime}
-use Rattle.ceilings.specs.kernel_laws.declared.question_types.kind.CallKind.TheVariants.{SetsRealtime, TakesPersonality, SetsMode, OpensMode, ChangesMounts}
-use Rattle.ceilings.specs.kernel_laws.declared.question_types.kind.CallKind.TheVariants.{RemovesMounts, SetsCaps, TakesUid, TakesGid}
+use Rattle.ceilings.specs.kernel_laws.declared.question_types.kind.CallKind.TheVariants.{SetsRealtime, TakesPersonality, SetsMode, OpensMode, CreatesMode}
+use Rattle.ceilings.specs.kernel_laws.declared.question_types.kind.CallKind.TheVariants.{ChangesMounts, RemovesMounts, SetsCaps, TakesUid, TakesGid, SetsUpRing, Submits}
 use Rattle.ceilings.specs.kernel_laws.declared.question_types.wish.Wish.TheVariants.{See as ToSee, Read as ToRead, Write as ToWrite}
 use Rattle.ceilings.specs.kernel_laws.declared.question_types.wish.Wish.TheVariants.{Exec as ToExec}
 
@@ -42,11 +42,14 @@ names_of TakesPersonality = codes "personality" ∷ []
 names_of SetsMode = codes "chmod" ∷ codes "fchmod" ∷ codes "fchmodat" ∷ codes "mkdir" ∷ codes "mkdirat" ∷ codes "mknod" ∷ codes "mknodat"
     ∷ []
 names_of OpensMode = codes "open" ∷ codes "openat" ∷ []
+names_of CreatesMode = codes "creat" ∷ []
 names_of ChangesMounts = codes "mount" ∷ []
 names_of RemovesMounts = codes "umount2" ∷ []
 names_of SetsCaps = codes "capset" ∷ []
 names_of TakesUid = codes "setuid" ∷ codes "setresuid" ∷ []
 names_of TakesGid = codes "setgid" ∷ codes "setresgid" ∷ codes "setgroups" ∷ []
+names_of SetsUpRing = codes "io_uring_setup" ∷ []
+names_of Submits = codes "io_uring_enter" ∷ []
 
 -- the ABI has a call of the name that asks for the kind, and the filters let it through
 abbrev pub lets_name : Launch → CallKind → ℕ → List ℕ → Bool

@@ -14,7 +14,7 @@ pub returns : goal.returns
 returns c =
     let launch = launch_of c.args.self.now.world.now in
     let front = gaining launch c.args.self.now.program.now cap_sys_admin in
-    let Ends : List Call → Type 0 = λ calls. OnOk c.push_operation-2.result (c.push_operation-2.new.calls.items ≡ calls) in
+    let Ends : List Call → Type 0 = λ calls. OnOk c.push_wished-2.result (c.push_wished-2.new.calls.items ≡ calls) in
     let wished : Power → List Call = λ power. wished_calls launch power c.args.wish c.args.row.now in
     let power = c.args.self.now.power in
     subst (λ calls. Ends (c.args.calls.now.items ++ calls))
@@ -22,4 +22,4 @@ returns c =
     (ap is_some (sym c.reach_by-near.ensures.by_the_rule) ∙ sym c.is_some.ensures ∙ c.if-is_some.false))
     (subst (λ own. Ends (c.args.calls.now.items ++ (front ++ wished own))) c.args.self.now.its_own
     (subst Ends (append_assoc c.args.calls.now.items front (wished power))
-    (subst (λ begun. Ends (begun ++ wished power)) c.in_ok-push_gaining.ensures c.push_operation-2.ensures)))
+    (subst (λ begun. Ends (begun ++ wished power)) c.in_ok-push_gaining.ensures c.push_wished-2.ensures)))
