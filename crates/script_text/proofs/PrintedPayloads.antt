@@ -17,18 +17,20 @@ use Rattle.kernel_model.specs.call_table.declared.call_names.payload.PayloadForm
 use Rattle.kernel_model.specs.call_table.Numbers.{is_lower_hex, number_of}
 use Rattle.hex.specs.Hex.{IsBytes, encode_lower, encode_with, decode_of, lower_digits}
 use Rattle.hex.proofs.HexLemmas.{decode_of-encode_lower, length-encode_with}
-use Rattle.kernel_model.specs.kernel_calls.Calls.{IsPath, FitsPayload}
+use Rattle.kernel_model.specs.kernel_calls.Calls.{IsPath, FitsPayload, FitsRequest}
 use Rattle.kernel_model.specs.declared.kernel_calls.payload.Payload.{Payload}
-use Rattle.kernel_model.specs.declared.kernel_calls.payload.Payload.TheVariants.{Nothing, OnePath, TwoPaths, PathFlags, Sets, Ids, Number, Code}
+use Rattle.kernel_model.specs.declared.kernel_calls.payload.Payload.TheVariants.{Nothing, OnePath, TwoPaths, PathFlags, Sets, Ids, Number, Code, Ring}
+use Rattle.kernel_model.specs.declared.kernel_calls.request.Request.{Request}
+use Rattle.kernel_model.specs.declared.kernel_calls.request.Request.TheVariants.{Stat, Open, Socket, Mode}
 use Rattle.kernel_model.specs.text_forms.Escaped.{escaped_byte, escaped_word, is_coded, upper_digit}
 use Rattle.kernel_model.proofs.OfTextForms.Escapes.{escaped_read, no_white}
 use Rattle.script_text.specs.Escapes.{text_only, escaped_text}
 use Rattle.script_text.specs.Marks.{before, between_commas}
 use Rattle.script_text.specs.Numbers.{all_read, with_front}
 use Rattle.script_text.specs.Payloads.{faultless_path, path_of, set_of, ids_of, is_code, code_of, with_words, path_flags, two_paths, three_sets}
-use Rattle.script_text.specs.Payloads.{payload_of}
-use Rattle.script_text.specs.Printed.{has_form, each_number, with_commas, ids_word, code_word, payload_words}
-use Rattle.script_text.specs.PrintedAgain.{HasTexts, IsText, IsWord}
+use Rattle.script_text.specs.Payloads.{open_request, payload_of}
+use Rattle.script_text.specs.Printed.{has_form, each_number, with_commas, ids_word, code_word, payload_words, request_words}
+use Rattle.script_text.specs.PrintedAgain.{HasTexts, IsText, IsWord, RequestHasText}
 use Rattle.script_text.proofs.MarksFound.{behind_mark, before_mark}
 use Rattle.script_text.proofs.PrintedNumbers.{number_has_no, number_shown, number_again, set_again}
 use Rattle.script_text.proofs.Spaced.{HasNo, all_append}
@@ -153,6 +155,21 @@ code_again (byte ∷ bytes) h whole =
     ∙ ap (λ b. cond b (result_ok (decode_of word)) None) is ∙ ap result_ok
     (decode_of-encode_lower (byte ∷ bytes) (are_bytes (byte ∷ bytes) h))
 
+-- requests to a ring
+open_again : (path : Path) (flags : ℕ) → IsPath path × (flags < 2 ^ 32) → IsText (text_of path)
+    → open_request (escaped_word (text_of path)) (decimal flags) ≡ Some (Ring (Open path flags))
+open_again path flags p utf8 =
+    ap (λ o. option_and_then (λ at. option_map (λ bits. Ring (Open at bits)) o) (path_of (escaped_word (text_of path))))
+    (number_again flags p.1)
+    ∙ ap (λ o. option_and_then (λ at. Some (Ring (Open at flags))) o) (path_again path p.0 utf8)
+
+request_again : (request : Request) (rest : List (List ℕ)) → FitsRequest request → RequestHasText request
+    → payload_of form.Request (request_words request ++ rest) ≡ Some (Ring request, rest)
+request_again (Stat path) rest fits texts = ap (option_map (λ path. (Ring (Stat path), rest))) (path_again path fits texts)
+request_again (Open path flags) rest fits texts = ap (option_map (with_words rest)) (open_again path flags fits texts)
+request_again (Socket family) rest fits texts = ap (option_map (λ family. (Ring (Socket family), rest))) (number_again family fits)
+request_again (Mode mode) rest fits texts = ap (option_map (λ mode. (Ring (Mode mode), rest))) (number_again mode fits)
+
 -- a payload of the form is taken back, with what stands behind it
 pub payload_again : (form' : PayloadForm) (payload : Payload) (rest : List (List ℕ)) → has_form form' payload ≡ true → FitsPayload payload
     → HasTexts payload → payload_of form' (payload_words payload ++ rest) ≡ Some (payload, rest)
@@ -167,6 +184,7 @@ payload_again form.Sets (Sets permitted effective inheritable) rest h fits texts
 payload_again form.Ids (Ids ids) rest h fits texts = ap (option_map (λ ids. (Ids ids, rest))) (ids_again ids fits)
 payload_again form.Number (Number number) rest h fits texts = ap (option_map (λ number. (Number number, rest))) (number_again number fits)
 payload_again form.Program (Code bytes) rest h fits texts = ap (option_map (λ bytes. (Code bytes, rest))) (code_again bytes fits h)
+payload_again form.Request (Ring request) rest h fits texts = request_again request rest fits texts
 payload_again _ _ rest h fits texts = absurd (false≢true h)
 
 some_byte : (byte : ℕ) (rest : List ℕ) → (length (escaped_byte byte ++ rest) == 0) ≡ false
@@ -230,6 +248,18 @@ ids_shown ids h = record {
   plain = (refl, all_append (λ byte. (byte == 32) ≡ false) (with_commas ids) (93 ∷ []) (commas_plain ids h) (refl, tt));
 }
 
+small_word : (number : ℕ) → number < 2 ^ 32 → IsWord (decimal number)
+small_word number h = number_shown number (omega (arith, h))
+
+request_shown : (request : Request) → FitsRequest request → AllByRecursion IsWord (request_words request)
+request_shown (Stat path) h =
+    (record { some = refl; plain = (refl, (refl, (refl, (refl, tt)))) }, (escaped_shown path, tt))
+request_shown (Open path flags) h =
+    (record { some = refl; plain = (refl, (refl, (refl, (refl, tt)))) }, (escaped_shown path, (small_word flags h.1, tt)))
+request_shown (Socket family) h =
+    (record { some = refl; plain = (refl, (refl, (refl, (refl, (refl, (refl, tt)))))) }, (small_word family h, tt))
+request_shown (Mode mode) h = (record { some = refl; plain = (refl, (refl, (refl, (refl, tt)))) }, (small_word mode h, tt))
+
 pub payload_shown : (payload : Payload) → FitsPayload payload → AllByRecursion IsWord (payload_words payload)
 payload_shown Nothing h = tt
 payload_shown (OnePath path) h = (escaped_shown path, tt)
@@ -241,3 +271,4 @@ payload_shown (Sets permitted effective inheritable) h =
 payload_shown (Ids ids) h = (ids_shown ids h, tt)
 payload_shown (Number number) h = (number_shown number (let small : number < 2 ^ 32 = h in omega (arith, small)), tt)
 payload_shown (Code bytes) h = (code_shown bytes h, tt)
+payload_shown (Ring request) h = request_shown request h

@@ -28,11 +28,12 @@ use Rattle.kernel_model.specs.call_table.call_words.Words.{spelled}
 use Rattle.kernel_model.proofs.OfCallTable.Back.{spelled_there}
 use Rattle.kernel_model.specs.declared.kernel_calls.call.Call.{Call}
 use Rattle.kernel_model.specs.declared.kernel_calls.payload.Payload.{Payload}
-use Rattle.kernel_model.specs.declared.kernel_calls.payload.Payload.TheVariants.{Nothing, OnePath, TwoPaths, PathFlags, Sets, Ids, Number, Code}
+use Rattle.kernel_model.specs.declared.kernel_calls.payload.Payload.TheVariants.{Nothing, OnePath, TwoPaths, PathFlags, Sets, Ids, Number, Code, Ring}
+use Rattle.kernel_model.specs.declared.kernel_calls.request.Request.TheVariants.{Stat, Open, Socket, Mode}
 use Rattle.kernel_model.specs.text_forms.Numbers.{decimal_value}
 use Rattle.script_text.specs.Marks.{behind_hash}
 use Rattle.script_text.specs.Numbers.{some_pid, pid_of, numbers_of, six_words}
-use Rattle.script_text.specs.Payloads.{Taken, path_of, set_of, ids_of, is_code, code_of, with_words, payload_of}
+use Rattle.script_text.specs.Payloads.{Taken, path_of, set_of, ids_of, is_code, code_of, with_words, payload_of, stat_taken, open_taken, socket_taken, mode_taken}
 use Rattle.script_text.specs.Printed.{has_form}
 use Rattle.script_text.specs.PrintedAgain.{IsWritten}
 use Rattle.script_text.specs.Reading.{Named, bare_number, call_named, form_of_name, named_by, named_in, named_call, with_numbers}
@@ -146,6 +147,51 @@ taken_form : (form' : PayloadForm) (made : Payload) (words : List (List ℕ)) (t
     → has_form form' made ≡ true → has_form form' taken.0 ≡ true
 taken_form form' made words taken e h = ap (λ (t : Taken). has_form form' t.0) (sym (same_Some {A = Taken} (made, words) taken e)) ∙ h
 
+stat_form : (words : List (List ℕ)) (taken : Taken) → stat_taken words ≡ Some taken → has_form form.Request taken.0 ≡ true
+stat_form [] taken e = cc
+stat_form (word ∷ words) taken e = by (path_of word) e
+  where
+    by : (o : Option Path) → option_map (λ path. (Ring (Stat path), words)) o ≡ Some taken → has_form form.Request taken.0 ≡ true
+    by None e = cc
+    by (Some path) e = taken_form form.Request (Ring (Stat path)) words taken e refl
+
+open_form : (words : List (List ℕ)) (taken : Taken) → open_taken words ≡ Some taken → has_form form.Request taken.0 ≡ true
+open_form [] taken e = cc
+open_form (word ∷ []) taken e = cc
+open_form (path ∷ flags ∷ words) taken e = by (path_of path) (number_of flags) e
+  where
+    by : (o : Option Path) (f : Option ℕ)
+        → option_map (with_words words) (option_and_then (λ at. option_map (λ bits. Ring (Open at bits)) f) o) ≡ Some taken
+        → has_form form.Request taken.0 ≡ true
+    by None f e = cc
+    by (Some at) None e = cc
+    by (Some at) (Some bits) e = taken_form form.Request (Ring (Open at bits)) words taken e refl
+
+socket_form : (words : List (List ℕ)) (taken : Taken) → socket_taken words ≡ Some taken → has_form form.Request taken.0 ≡ true
+socket_form [] taken e = cc
+socket_form (word ∷ words) taken e = by (number_of word) e
+  where
+    by : (o : Option ℕ) → option_map (λ family. (Ring (Socket family), words)) o ≡ Some taken → has_form form.Request taken.0 ≡ true
+    by None e = cc
+    by (Some family) e = taken_form form.Request (Ring (Socket family)) words taken e refl
+
+mode_form : (words : List (List ℕ)) (taken : Taken) → mode_taken words ≡ Some taken → has_form form.Request taken.0 ≡ true
+mode_form [] taken e = cc
+mode_form (word ∷ words) taken e = by (number_of word) e
+  where
+    by : (o : Option ℕ) → option_map (λ mode. (Ring (Mode mode), words)) o ≡ Some taken → has_form form.Request taken.0 ≡ true
+    by None e = cc
+    by (Some mode) e = taken_form form.Request (Ring (Mode mode)) words taken e refl
+
+request_form : (stat' open' socket' mode' : Bool) (words : List (List ℕ)) (taken : Taken)
+    → cond stat' (stat_taken words) (cond open' (open_taken words) (cond socket' (socket_taken words) (cond mode' (mode_taken words) None)))
+    ≡ Some taken → has_form form.Request taken.0 ≡ true
+request_form true open' socket' mode' words taken e = stat_form words taken e
+request_form false true socket' mode' words taken e = open_form words taken e
+request_form false false true mode' words taken e = socket_form words taken e
+request_form false false false true words taken e = mode_form words taken e
+request_form false false false false words taken e = cc
+
 has_its_form : (form' : PayloadForm) (words : List (List ℕ)) (taken : Taken) → payload_of form' words ≡ Some taken
     → has_form form' taken.0 ≡ true
 has_its_form form.Nothing words taken e = taken_form form.Nothing Nothing words taken e refl
@@ -204,6 +250,10 @@ has_its_form form.Program (word ∷ words) taken e = by (code_of word) refl e
         → has_form form.Program taken.0 ≡ true
     by None is e = cc
     by (Some bytes) is e = taken_form form.Program (Code bytes) words taken e (code_whole word bytes is)
+has_its_form form.Request [] taken e = cc
+has_its_form form.Request (kind ∷ words) taken e =
+    request_form (bytes_eq kind (codes "stat")) (bytes_eq kind (codes "open")) (bytes_eq kind (codes "socket")) (bytes_eq kind (codes "mode"))
+    words taken e
 
 nothing_only : (payload : Payload) → has_form form.Nothing payload ≡ true → payload ≡ Nothing
 nothing_only Nothing h = refl
@@ -214,6 +264,7 @@ nothing_only (Sets permitted effective inheritable) h = absurd (false≢true h)
 nothing_only (Ids ids) h = absurd (false≢true h)
 nothing_only (Number number) h = absurd (false≢true h)
 nothing_only (Code bytes) h = absurd (false≢true h)
+nothing_only (Ring request) h = absurd (false≢true h)
 
 -- the parts of a line that gives a call
 record Parts (table : Table) (call : Call) : Type 0 where

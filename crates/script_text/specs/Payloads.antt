@@ -12,7 +12,9 @@ use Rattle.kernel_model.specs.call_table.declared.call_names.payload.PayloadForm
 use Rattle.kernel_model.specs.call_table.Numbers.{is_lower_hex, number_of}
 use Rattle.hex.specs.Hex.{decode_of}
 use Rattle.kernel_model.specs.declared.kernel_calls.payload.Payload.{Payload}
-use Rattle.kernel_model.specs.declared.kernel_calls.payload.Payload.TheVariants.{Nothing, OnePath, TwoPaths, PathFlags, Sets, Ids, Number, Code}
+use Rattle.kernel_model.specs.declared.kernel_calls.payload.Payload.TheVariants.{Nothing, OnePath, TwoPaths, PathFlags, Sets, Ids, Number, Code, Ring}
+use Rattle.kernel_model.specs.declared.kernel_calls.request.Request.{Request}
+use Rattle.kernel_model.specs.declared.kernel_calls.request.Request.TheVariants.{Stat, Open, Socket, Mode}
 use Rattle.kernel_model.specs.text_forms.Numbers.{number_value}
 use Rattle.script_text.specs.Escapes.{escaped_text}
 use Rattle.script_text.specs.Marks.{between_brackets, between_commas}
@@ -61,6 +63,33 @@ abbrev pub three_sets : List ℕ → List ℕ → List ℕ → Option Payload
 three_sets permitted effective inheritable =
     option_and_then (λ p. option_and_then (λ e. option_map (λ i. Sets p e i) (set_of inheritable)) (set_of effective)) (set_of permitted)
 
+-- a request to a ring, by the word of its kind: `stat PATH`, `open PATH FLAGS`, `socket FAMILY` and `mode MODE`
+abbrev pub stat_taken : List (List ℕ) → Option Taken
+stat_taken (path ∷ words) = option_map (λ at. (Ring (Stat at), words)) (path_of path)
+stat_taken [] = None
+
+abbrev pub open_request : List ℕ → List ℕ → Option Payload
+open_request path flags = option_and_then (λ at. option_map (λ bits. Ring (Open at bits)) (number_of flags)) (path_of path)
+
+abbrev pub open_taken : List (List ℕ) → Option Taken
+open_taken (path ∷ flags ∷ words) = option_map (with_words words) (open_request path flags)
+open_taken _ = None
+
+abbrev pub socket_taken : List (List ℕ) → Option Taken
+socket_taken (word ∷ words) = option_map (λ family. (Ring (Socket family), words)) (number_of word)
+socket_taken [] = None
+
+abbrev pub mode_taken : List (List ℕ) → Option Taken
+mode_taken (word ∷ words) = option_map (λ mode. (Ring (Mode mode), words)) (number_of word)
+mode_taken [] = None
+
+abbrev pub request_taken : List ℕ → List (List ℕ) → Option Taken
+request_taken kind words =
+    cond (bytes_eq kind (codes "stat")) (stat_taken words)
+    (cond (bytes_eq kind (codes "open")) (open_taken words)
+    (cond (bytes_eq kind (codes "socket")) (socket_taken words)
+    (cond (bytes_eq kind (codes "mode")) (mode_taken words) None)))
+
 -- the payload of a form at the front of the words of a line, and the words after it; nothing where it is missing or not of its form
 abbrev pub payload_of : PayloadForm → List (List ℕ) → Option Taken
 payload_of form.Nothing words = Some (Nothing, words)
@@ -72,4 +101,5 @@ payload_of form.Sets (permitted ∷ effective ∷ inheritable ∷ words) =
 payload_of form.Ids (word ∷ words) = option_map (λ ids. (Ids ids, words)) (ids_of word)
 payload_of form.Number (word ∷ words) = option_map (λ number. (Number number, words)) (number_of word)
 payload_of form.Program (word ∷ words) = option_map (λ bytes. (Code bytes, words)) (code_of word)
+payload_of form.Request (kind ∷ words) = request_taken kind words
 payload_of _ _ = None

@@ -12,7 +12,9 @@ use Rattle.kernel_model.specs.call_table.call_words.Words.{spelling}
 use Rattle.hex.specs.Hex.{encode_lower}
 use Rattle.kernel_model.specs.declared.kernel_calls.call.Call.{Call}
 use Rattle.kernel_model.specs.declared.kernel_calls.payload.Payload.{Payload}
-use Rattle.kernel_model.specs.declared.kernel_calls.payload.Payload.TheVariants.{Nothing, OnePath, TwoPaths, PathFlags, Sets, Ids, Number, Code}
+use Rattle.kernel_model.specs.declared.kernel_calls.payload.Payload.TheVariants.{Nothing, OnePath, TwoPaths, PathFlags, Sets, Ids, Number, Code, Ring}
+use Rattle.kernel_model.specs.declared.kernel_calls.request.Request.{Request}
+use Rattle.kernel_model.specs.declared.kernel_calls.request.Request.TheVariants.{Stat, Open, Socket, Mode}
 use Rattle.kernel_model.specs.text_forms.Escaped.{escaped_word}
 use Rattle.script_text.specs.Numbers.{without_last_zeros}
 use Rattle.script_text.specs.Reading.{form_of_name}
@@ -27,6 +29,7 @@ has_form form.Sets (Sets permitted effective inheritable) = true
 has_form form.Ids (Ids ids) = true
 has_form form.Number (Number number) = true
 has_form form.Program (Code bytes) = length bytes % 8 == 0
+has_form form.Request (Ring request) = true
 has_form _ _ = false
 
 -- words, each after a separator
@@ -50,6 +53,13 @@ abbrev pub code_word : List ℕ → List ℕ
 code_word [] = codes "-"
 code_word (byte ∷ bytes) = encode_lower (byte ∷ bytes)
 
+-- the words of a request to a ring
+abbrev pub request_words : Request → List (List ℕ)
+request_words (Stat path) = codes "stat" ∷ escaped_word (text_of path) ∷ []
+request_words (Open path flags) = codes "open" ∷ escaped_word (text_of path) ∷ decimal flags ∷ []
+request_words (Socket family) = codes "socket" ∷ decimal family ∷ []
+request_words (Mode mode) = codes "mode" ∷ decimal mode ∷ []
+
 -- the words of a payload
 abbrev pub payload_words : Payload → List (List ℕ)
 payload_words Nothing = []
@@ -60,6 +70,7 @@ payload_words (Sets permitted effective inheritable) = decimal permitted ∷ dec
 payload_words (Ids ids) = ids_word ids ∷ []
 payload_words (Number number) = decimal number ∷ []
 payload_words (Code bytes) = code_word bytes ∷ []
+payload_words (Ring request) = request_words request
 
 abbrev pub hash_word : ℕ → List ℕ
 hash_word nr = codes "#" ++ decimal nr

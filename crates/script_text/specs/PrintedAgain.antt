@@ -15,7 +15,9 @@ use Rattle.kernel_model.specs.call_table.call_words.Words.{HasOtherName}
 use Rattle.kernel_model.specs.kernel_calls.Calls.{IsCall}
 use Rattle.kernel_model.specs.declared.kernel_calls.call.Call.{Call}
 use Rattle.kernel_model.specs.declared.kernel_calls.payload.Payload.{Payload}
-use Rattle.kernel_model.specs.declared.kernel_calls.payload.Payload.TheVariants.{Nothing, OnePath, TwoPaths, PathFlags, Sets, Ids, Number, Code}
+use Rattle.kernel_model.specs.declared.kernel_calls.payload.Payload.TheVariants.{Nothing, OnePath, TwoPaths, PathFlags, Sets, Ids, Number, Code, Ring}
+use Rattle.kernel_model.specs.declared.kernel_calls.request.Request.{Request}
+use Rattle.kernel_model.specs.declared.kernel_calls.request.Request.TheVariants.{Stat, Open, Socket, Mode}
 use Rattle.script_text.specs.Printed.{call_text, has_form}
 use Rattle.script_text.specs.Reading.{call_of, form_of_name}
 
@@ -34,6 +36,13 @@ pub record IsText (bytes : List ℕ) : Type 0 where
   pub utf8 : is_utf8 bytes ≡ true
   pub small : All (λ byte. byte < 256) bytes
 
+-- the path of a request to a ring, if it has one, is a text
+abbrev pub RequestHasText : Request → Type 0
+RequestHasText (Stat path) = IsText (text_of path)
+RequestHasText (Open path flags) = IsText (text_of path)
+RequestHasText (Socket family) = Unit {0}
+RequestHasText (Mode mode) = Unit {0}
+
 -- its paths are texts
 abbrev pub HasTexts : Payload → Type 0
 HasTexts Nothing = Unit {0}
@@ -44,6 +53,7 @@ HasTexts (Sets permitted effective inheritable) = Unit {0}
 HasTexts (Ids ids) = Unit {0}
 HasTexts (Number number) = Unit {0}
 HasTexts (Code bytes) = Unit {0}
+HasTexts (Ring request) = RequestHasText request
 
 -- the call's ABI has its number, and the payload is of the form of the name that it gives it
 pub record HasItsForm (table : Table) (call : Call) : Type 0 where

@@ -3,10 +3,10 @@
 ghost use Rattle.std.specs.Prelude.{◌<◌};
 ghost use Rattle.std.specs.List.{All};
 ghost use Rattle.kernel_model.specs.abs_path.Paths.{text_of};
-ghost use Rattle.script_text.specs.PrintedAgain.{HasTexts, IsHeld, IsText};
+ghost use Rattle.script_text.specs.PrintedAgain.{HasTexts, IsHeld, IsText, RequestHasText};
 
 use abs_path::AbsPath;
-use kernel_model::kernel_calls::{Call, Payload, fits};
+use kernel_model::kernel_calls::{Call, Payload, Request, fits};
 
 fn bytes_fit(bytes: &[u8])
     ensures { All (λ byte. byte < 256) bytes.now }
@@ -28,6 +28,15 @@ fn path_is_text(path: &AbsPath)
     is_text(path.text());
 }
 
+fn request_is_text(request: &Request)
+    ensures { RequestHasText request.now }
+{
+    match request {
+        Request::Stat(path) | Request::Open(path, _) => path_is_text(path),
+        Request::Socket(_) | Request::Mode(_) => {}
+    }
+}
+
 fn payload_is_text(payload: &Payload)
     ensures { HasTexts payload.now }
 {
@@ -37,6 +46,7 @@ fn payload_is_text(payload: &Payload)
             path_is_text(source);
             path_is_text(target);
         }
+        Payload::Ring(request) => request_is_text(request),
         Payload::Nothing
         | Payload::Sets(_, _, _)
         | Payload::Ids(_)

@@ -18,6 +18,7 @@ mod names;
 mod payloads;
 mod printing;
 mod reader;
+mod requests;
 
 pub use error::{ScriptCause, ScriptError};
 use kernel_model::ItemList;

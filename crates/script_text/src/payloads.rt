@@ -13,6 +13,7 @@ use crate::error::ScriptCause;
 use crate::escapes::read_text;
 use crate::line_fault::LineFault;
 use crate::names::read_number;
+use crate::requests::take_request;
 use abs_path::{AbsPath, PathError};
 use hex::{FromHexError, decode};
 use kernel_model::kernel_calls::{Bytes, IdList, Payload};
@@ -20,11 +21,11 @@ use kernel_model::{CapSet, PayloadForm, read_u64};
 use std::alloc::{AllocError, Global};
 
 /// The cause of a payload that is missing, or not of its form.
-const NO_PAYLOAD: LineFault = LineFault::Faulty(ScriptCause::Payload);
+pub(crate) const NO_PAYLOAD: LineFault = LineFault::Faulty(ScriptCause::Payload);
 
-// a path, as an escaped word
+/// Reads a path, as an escaped word.
 #[tactic(auto, unfolding(crate::specs::Payloads::path_of))]
-fn read_path(alloc: Global, word: &str) -> Result<AbsPath, LineFault>
+pub(crate) fn read_path(alloc: Global, word: &str) -> Result<AbsPath, LineFault>
     ensures { ReadsAs (path_of word.now) PayloadCause result }
 {
     let text = read_text(alloc, word)?.ok_or(NO_PAYLOAD)?;
@@ -134,8 +135,8 @@ fn read_ids(alloc: Global, word: &str) -> Result<IdList, LineFault>
     Ok(IdList::new(read_each(alloc, pieces.as_slice())?))
 }
 
-// a number that a call carries
-fn read_payload_number(word: &str) -> Result<u32, LineFault>
+/// Reads a number that a call carries.
+pub(crate) fn read_payload_number(word: &str) -> Result<u32, LineFault>
     ensures { ReadsAs (number_of word.now) PayloadCause result }
 {
     read_number(word).ok_or(NO_PAYLOAD)
@@ -227,6 +228,7 @@ pub(crate) fn take_payload<'w, 't>(
             payload: Payload::Code(read_code(alloc, code)?),
             rest,
         }),
+        (PayloadForm::Request, [kind, rest @ ..]) => take_request(alloc, kind, rest),
         _ => Err(NO_PAYLOAD),
     }
 }

@@ -4,14 +4,14 @@ ghost use Rattle.std.specs.Prelude.{◌≡◌, ◌++◌, ◌∷◌, OnOk, IfOk, 
 ghost use Rattle.kernel_model.specs.abs_path.Paths.{text_of};
 ghost use Rattle.kernel_model.specs.text_forms.Escaped.{escaped_word};
 ghost use Rattle.script_text.specs.Numbers.{without_last_zeros};
-ghost use Rattle.script_text.specs.Printed.{argument_words, call_text, code_word, each_behind, each_number, has_form, ids_word, front_words, numbered_words, payload_words, with_commas};
+ghost use Rattle.script_text.specs.Printed.{argument_words, call_text, code_word, each_behind, each_number, has_form, ids_word, front_words, numbered_words, payload_words, request_words, with_commas};
 ghost use Rattle.script_text.specs.PrintedAgain.{IsReadAs};
 
 use crate::held::is_held;
 use crate::names::form_of_name;
 use abs_path::AbsPath;
 use hex::encode;
-use kernel_model::kernel_calls::{Call, Payload};
+use kernel_model::kernel_calls::{Call, Payload, Request};
 use kernel_model::{CallTable, PayloadForm, push_abi, push_u64, push_word};
 use std::alloc::{AllocError, Global};
 
@@ -26,7 +26,8 @@ fn has_form(form: PayloadForm, payload: &Payload) -> bool
         | (PayloadForm::PathFlags, Payload::PathFlags(_, _))
         | (PayloadForm::Sets, Payload::Sets(_, _, _))
         | (PayloadForm::Ids, Payload::Ids(_))
-        | (PayloadForm::Number, Payload::Number(_)) => true,
+        | (PayloadForm::Number, Payload::Number(_))
+        | (PayloadForm::Request, Payload::Ring(_)) => true,
         (PayloadForm::Program, Payload::Code(code)) => code.list().len() % 8 == 0,
         _ => false,
     }
@@ -96,6 +97,31 @@ fn push_code(alloc: Global, out: &mut Vec<u8>, bytes: &[u8]) -> Result<(), Alloc
     out.extend_from_slice(encode(alloc, bytes)?.as_bytes())
 }
 
+// the words of a request to a ring, each after a space
+fn push_request(out: &mut Vec<u8>, request: &Request) -> Result<(), AllocError>
+    ensures { OnOk result (out.new.items ≡ out.old.items ++ each_behind (codes " ") (request_words request.now)) }
+{
+    match request {
+        Request::Stat(path) => {
+            out.extend_from_slice(b" stat")?;
+            push_path(out, path)
+        }
+        Request::Open(path, flags) => {
+            out.extend_from_slice(b" open")?;
+            push_path(out, path)?;
+            push_number(out, u64::from(*flags))
+        }
+        Request::Socket(family) => {
+            out.extend_from_slice(b" socket")?;
+            push_number(out, u64::from(*family))
+        }
+        Request::Mode(mode) => {
+            out.extend_from_slice(b" mode")?;
+            push_number(out, u64::from(*mode))
+        }
+    }
+}
+
 // the words of a payload, each after a space
 fn push_payload(alloc: Global, out: &mut Vec<u8>, payload: &Payload) -> Result<(), AllocError>
     ensures { OnOk result (out.new.items ≡ out.old.items ++ each_behind (codes " ") (payload_words payload.now)) }
@@ -119,6 +145,7 @@ fn push_payload(alloc: Global, out: &mut Vec<u8>, payload: &Payload) -> Result<(
         Payload::Ids(ids) => push_list(out, ids.list()),
         Payload::Number(number) => push_number(out, u64::from(*number)),
         Payload::Code(code) => push_code(alloc, out, code.list()),
+        Payload::Ring(request) => push_request(out, request),
     }
 }
 
