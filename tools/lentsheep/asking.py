@@ -123,7 +123,7 @@ def _of_path(kind: str, path: str, site: Site, unit: str) -> str:
     found = site.rows.get(path)
     if found == "dir" and kind in ("write", "exec"):
         return f'{unit} is not asked "{kind} {path}": it is a folder; ask of a file in it, as {kind} {path.rstrip("/")}/x'
-    if found == "file" and kind == "exec":
+    if found in ("file", "dev") and kind == "exec":
         return f'{unit} is not asked "exec {path}": it is a file that nobody may execute'
     above = next((it for it in _above(path) if site.rows.get(it, "dir") != "dir"), None)
     return f"nothing can be below {above}, which is a file" if above else ""

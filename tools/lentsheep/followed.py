@@ -11,6 +11,7 @@ FOLLOWED = frozenset(
     credentials-hidden
     device-folders
     device-programs
+    devices-read-only
     disconnected-tmp
     families-allow-bits
     families-deny-bits
@@ -21,6 +22,7 @@ FOLLOWED = frozenset(
     folders-shown
     home-tmpfs
     hostname-files
+    io-uring
     linked-folders
     mdwe-prctl
     namespace-lines

@@ -18,7 +18,9 @@ families of tables/x86-64/calls.txt that this kernel lacks. Sockets, pipes, devi
 says which they are. The comment of a path through a link says where it leads.
 
 The key `systemd` is 252 or 257 if the root has exactly this version of systemd: the program then judges by its rules. With another
-version the site has no such key, and standard error and the first lines of the site say why.
+version the site has no such key, and standard error and the first lines of the site say why. With the key, devices, disks,
+terminals and named pipes have the kind `dev`, since a read-only mount does not keep them. `io_uring = false` says that the root runs
+and its kernel makes no rings (kernel.io_uring_disabled is 2).
 """
 from __future__ import annotations
 

@@ -6,7 +6,7 @@ import fnmatch
 import os
 import re
 import stat
-from typing import Iterable, NamedTuple, Optional
+from typing import Iterable, Mapping, NamedTuple, Optional
 
 from sites.others import is_of_another
 from sites.privileges import NONE, Privileges, is_program, privileges_of
@@ -24,8 +24,12 @@ OF_A_PROCESS = re.compile(rb"/proc/[0-9]+(/|$)")
 TERMINALS = (2, 3, 4, 5, *range(136, 144))
 
 
+# What a read-only mount does not keep from being written: Linux looks at the mount of no device and of no named pipe (open(2), EROFS).
+UNKEPT = ("device", "disk", "terminal", "pipe")
+
+
 class Row(NamedTuple):
-    """A kind, `dir`, `file` or `exe`, what the program gives, and what a file is that is none: a socket, a pipe, a device, a disk
+    """A kind, `dir`, `file`, `exe` or `dev`, what the program gives, and what a file is that is none: a socket, a pipe, a device, a disk
     or a terminal. With a link in its path, `link` says where it leads; it is empty if that is no path of a row."""
 
     kind: str
@@ -54,6 +58,11 @@ def kind_of(mode: int) -> str:
     if stat.S_ISDIR(mode):
         return "dir"
     return "exe" if is_program(mode) else "file"
+
+
+def with_devices(rows: Mapping[bytes, Row]) -> dict[bytes, Row]:
+    """The rows with the kind `dev` for those that a read-only mount does not keep."""
+    return {path: row._replace(kind="dev") if row.special in UNKEPT else row for path, row in rows.items()}
 
 
 def parents_of(path: bytes) -> list[bytes]:

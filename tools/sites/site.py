@@ -7,9 +7,9 @@ from typing import Mapping, Optional, Sequence
 from sites import kept, machine, people, places, toml, units
 from sites.locations import Search
 from sites.root import Root, folded
-from sites.rows import Row, Rows, fault_of, parents_of
+from sites.rows import Row, Rows, fault_of, parents_of, with_devices
 from sites.says import Says, said
-from sites.spaces import user_namespaces
+from sites.spaces import lacks_rings, user_namespaces
 from sites.told import Told
 from sites.walk import Found, leads_to_folder, walk
 
@@ -224,16 +224,19 @@ def make_site(
     The walks are kept in the file `keep`, and `dropin` is the text of a drop-in that applies to each unit besides its own.
     """
     profile = machine.profile(root, told)
-    says = all_said(unit_root, names, told, dropin, profile is not None)
+    has_key = profile is not None
+    says = all_said(unit_root, names, told, dropin, has_key)
     users, groups = read_people(root, says, told)
     rows = Rows(root, told, names)
     tell_owner(root, told)
-    add_rows(rows, says, also, full, keep, profile is not None)
-    numbers = {
+    add_rows(rows, says, also, full, keep, has_key)
+    values = {
         "systemd": profile, "dynamic_uid": people.dynamic_uid(users, groups), "user_namespaces": user_namespaces(root, told),
+        "io_uring": "false" if has_key and lacks_rings(root) else None,
     }  # fmt: skip
+    made = with_devices(rows.rows) if has_key else rows.rows
     counts = f"{len(rows.rows)} rows, {len(users)} users, {len(groups)} groups"
-    text = toml.site_text([*head, *machine.kernel_heads(root), counts, *told.lines()], numbers, rows.rows, users, groups)
+    text = toml.site_text([*head, *machine.kernel_heads(root), counts, *told.lines()], values, made, users, groups)
     if len(text) > toml.LONGEST:
         raise Fault(f"the site has {len(text)} bytes, but the program reads at most {toml.LONGEST}")
     return text

@@ -1,4 +1,5 @@
-"""How many user namespaces the kernel of a root makes: user_namespaces(7), namespaces(7), and sysctl/kernel of Debian."""
+"""What the kernel of a root gives its processes: how many user namespaces (user_namespaces(7), namespaces(7), and sysctl/kernel of
+Debian), and whether rings of io_uring(7)."""
 
 from __future__ import annotations
 
@@ -10,6 +11,9 @@ from sites.told import Told
 MOST = 64
 LIMIT = b"/proc/sys/user/max_user_namespaces"
 SWITCH = b"/proc/sys/kernel/unprivileged_userns_clone"
+RINGS = b"/proc/sys/kernel/io_uring_disabled"
+# Nobody makes a ring there. With 1, those with CAP_SYS_ADMIN and those of a group still do (sysctl/kernel).
+NO_RINGS = 2
 
 
 def number(root: Root, path: bytes) -> Optional[int]:
@@ -29,3 +33,8 @@ def user_namespaces(root: Root, told: Told) -> Optional[int]:
     if number(root, SWITCH) == 0:
         return 0
     return max(0, min(limit, MOST))
+
+
+def lacks_rings(root: Root) -> bool:
+    """Whether the running kernel of a root lets no process make a ring. Where it is not known, it does."""
+    return number(root, RINGS) == NO_RINGS

@@ -2,7 +2,7 @@
 
 from __future__ import annotations
 
-from typing import Mapping, Optional, Sequence
+from typing import Mapping, Sequence
 
 from sites.people import Group, User
 from sites.rows import Row
@@ -52,11 +52,11 @@ def group_text(group: Group) -> str:
 
 
 def site_text(
-    heads: Sequence[str], numbers: Mapping[str, Optional[int]], rows: Mapping[bytes, Row], users: Sequence[User], groups: Sequence[Group]
+    heads: Sequence[str], values: Mapping[str, object], rows: Mapping[bytes, Row], users: Sequence[User], groups: Sequence[Group]
 ) -> bytes:
-    """The whole text, with first lines that say where it comes from, and its numbers by their keys. Rows stand in byte order of their
-    paths."""
-    top = "".join(f"{key} = {number}\n" for key, number in numbers.items() if number is not None)
+    """The whole text, with first lines that say where it comes from, and the texts of its values by their keys, without those that are None. Rows stand in
+    byte order of their paths."""
+    top = "".join(f"{key} = {value}\n" for key, value in values.items() if value is not None)
     tables = ["".join(f"# {line}\n" for line in heads) + top]
     tables += [row_text(path.decode("utf-8"), row) for path, row in sorted(rows.items())]
     tables += [user_text(user) for user in users]

@@ -108,7 +108,7 @@ PATHS = """
     /etc /etc/foo *file:/etc/foo/x /home /home/alice *file:/home/alice/key /proc /proc/bus *file:/proc/bus/x /proc/sys /proc/sys/kernel
     *file:/proc/sys/kernel/hostname /root /run *file:/run/x /run/credentials *file:/run/credentials/x /run/user /srv *file:/srv/x /sys *file:/sys/x
     /sys/fs /sys/fs/cgroup *file:/sys/fs/cgroup/x /tmp /usr /usr/bin *exe:/usr/bin/web /var /var/lib /var/lib/a *file:/var/lib/a/x /var/tmp /dev
-    *file:/dev/null /dev/shm *file:/dev/shm/x /bin *exe:/bin/x *exe:/proc/x *file:/tmp/x /var/lib/private /var/lib/private/web *file:/var/lib/private/web/x
+    *dev:/dev/null /dev/shm *file:/dev/shm/x /bin *exe:/bin/x *exe:/proc/x *file:/tmp/x /var/lib/private /var/lib/private/web *file:/var/lib/private/web/x
     *exe:/dev/shm/run *exe:/sys/run
 """.split()
 PING = '[[row]]\npath = "/usr/bin/ping"\nkind = "exe"\ncaps = ["CAP_NET_RAW"]\neffective = true\n'
@@ -117,9 +117,12 @@ CALLS = """
     read write open openat openat2 creat truncate stat execve execveat exit_group getpid capset prctl seccomp setgroups setgid setresgid setregid
     setuid setresuid setreuid unshare clone clone3 fork mmap mprotect pkey_mprotect shmat socket socketpair personality sched_setscheduler
     sched_setattr chmod fchmod fchmodat fchmodat2 mkdir mkdirat mknod mknodat mount umount2 ptrace _sysctl init_module syslog clock_settime iopl
-    sethostname
+    sethostname io_uring_setup io_uring_enter
 """.split()
 BOTH = (252, 257)
+# Calls that give a mode or make a file with one, but for creat(2); and the setting of the row about it.
+MODES = "chmod fchmod fchmodat fchmodat2 mkdir mkdirat mknod mknodat open openat"
+LISTED_MODES = "A list that denies the calls that give a mode, but not "
 
 # The name of a row of docs/PROFILE.md, or how its setting begins, or nothing for what the base profile does too; the versions;
 # lines behind those of a program and of a user without privileges; a line that `plan`, `judge` or `replay` prints of them; and the
@@ -226,6 +229,14 @@ WITNESSES = [
     ("suid-newer-calls", BOTH, "RestrictSUIDSGID=yes\n", "1 fchmodat2 0 0 2048 -> errno 1", "1 fchmodat2 0 0 2048\n"),
     ("socketpair", BOTH, "RestrictAddressFamilies=AF_INET\n", "open socket AF_UNIX"),
     ("tmpfile-bits", BOTH, "RestrictSUIDSGID=yes\n", "open suid-bit"),
+    ("io-uring", BOTH, "RestrictAddressFamilies=AF_INET\n", "open socket AF_NETLINK"),
+    ("io-uring", BOTH, "SystemCallFilter=~open openat openat2 creat truncate\n", "open read /srv/x"),
+    ("", BOTH, "SystemCallFilter=~open openat openat2 creat truncate io_uring_enter\n", "denied read /srv/x"),
+    ("io-uring", BOTH, f"SystemCallFilter=~{MODES} creat\n", "open suid-bit"),
+    (f"{LISTED_MODES}creat(2)", BOTH, f"SystemCallFilter=~{MODES} io_uring_setup\n", "open suid-bit"),
+    ("", BOTH, f"SystemCallFilter=~{MODES} creat io_uring_setup\n", "denied suid-bit"),
+    ("devices-read-only", BOTH, "ReadOnlyPaths=/dev\n", "open write /dev/null"),
+    ("", BOTH, "ReadOnlyPaths=/dev\n", "denied write /dev/shm/x"),
     ("sched-setattr", BOTH, "User=root\nRestrictRealtime=yes\n", "open realtime"),
     ("", BOTH, "RestrictRealtime=yes\n", "denied realtime"),
     ("other-calls", BOTH, "SystemCallFilter=~open openat creat truncate\n", "open read /srv/x"),
