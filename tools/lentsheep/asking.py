@@ -29,6 +29,7 @@ _INSTEAD = {
     **dict.fromkeys("unshare setns clone clone3".split(), "ns TYPE, as ns user"),
     **dict.fromkeys("mmap".split(), "map-wx"), **dict.fromkeys("mprotect pkey_mprotect".split(), "protect-x"),
     **dict.fromkeys("sched_setscheduler sched_setattr".split(), "realtime"),
+    **dict.fromkeys("io_uring_setup io_uring_enter".split(), "socket FAMILY, read PATH or suid-bit"),
     **dict.fromkeys("chmod fchmod fchmodat fchmodat2 mkdir mkdirat mknod mknodat".split(), "suid-bit"),
     "socket": "socket FAMILY, as socket AF_INET", "socketcall": "socket FAMILY, as socket AF_INET", "capset": "cap NAME",
     "shmat": "shm-x", "personality": "personality",

@@ -28,8 +28,10 @@ DOING = {
 #: The calls that the kernel of the key `systemd` has besides: `other-calls`.
 ALSO_DOING = {
     "read": ("openat2",), "write": ("openat2",), "exec": ("execveat",), "ns": ("clone3",), "uid": ("setreuid",), "gid": ("setregid",),
-    "suid-bit": ("open", "openat", "fchmodat2"),
+    "suid-bit": ("open", "openat", "creat", "fchmodat2"),
 }  # fmt: skip
+#: What a request to a ring does, by a site with the key: `io-uring`. A site that has no rings is not told apart.
+BY_RING = ("see", "read", "write", "suid-bit")
 
 
 @dataclass(frozen=True)
@@ -111,7 +113,8 @@ class Judged:
     def refuses_doing(self, kind: str) -> bool:
         """Whether SystemCallFilter= refuses every call by which questions of a kind are done."""
         also = ALSO_DOING.get(kind, ()) if self.follows("other-calls") else ()
-        return kind in DOING and not any(self.passes(call) for call in (*DOING[kind], *also))
+        by_ring = kind in BY_RING and self.follows("io-uring") and self.passes("io_uring_setup", "io_uring_enter")
+        return kind in DOING and not by_ring and not any(self.passes(call) for call in (*DOING[kind], *also))
 
     def lacks_capability(self, answer: Answer) -> bool:
         """Whether a call or a family asks for a capability that the service cannot have, there either."""

@@ -13,7 +13,7 @@ from .record import dataclass, field
 PATH_FIRST = {"stat", "lstat", "access", "open", "creat", "truncate", "execve", "umount2"}
 PATH_SECOND = {"openat", "newfstatat", "statx", "faccessat", "faccessat2"}
 # Calls that carry something only if the site has the key `systemd`. A script has them by their numbers, which any site reads.
-BY_NUMBER = {"openat2", "execveat", "clone3", "sched_setattr"}
+BY_NUMBER = {"openat2", "execveat", "clone3", "sched_setattr", "io_uring_enter"}
 FORKS = {"fork", "vfork", "clone", "clone3"}
 # Flags that filters and the kernel's rules look at, by their names in strace(1).
 FLAGS = {

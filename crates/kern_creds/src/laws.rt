@@ -51,7 +51,7 @@ pub fn mdwe_holds()
     ensures stays_on { (creds now : Creds) → Reaches creds now → creds.mdwe ≡ true → now.mdwe ≡ true }
 {}
 
-/// Execve closes a ring, in whatever user namespace. A process has a ring only if it set one up or had one before.
+/// Execve closes a ring, in whatever user namespace. No other call than io_uring_setup(2) gives a process a ring.
 pub fn rings()
     ensures closed_by_execve { (newer : Bool) (creds now : Creds) (file : FileCreds) (nosuid : Bool)
         → exec_in newer creds file nosuid ≡ Ok now → now.ring ≡ false }

@@ -28,7 +28,7 @@ fn wish_request(wish: Wish, path: AbsPath) -> Request
 }
 
 impl Service<'_> {
-    /// Adds the call that sets up a ring, and the one that submits the request to it.
+    /// Adds the call that sets up a ring, and the call that submits the request to it.
     #[tactic(auto, using(crate::proofs::Opening::ring_passes, crate::proofs::Opening::submit_passes))]
     pub(crate) fn push_ring(&self, calls: &mut Vec<Call>, request: Request) -> Made<()>
         requires can_submit { can_submit (launch_of self.now.world.now) ≡ true }
