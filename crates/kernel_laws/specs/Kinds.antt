@@ -9,7 +9,7 @@ use Rattle.kernel_model.specs.abs_path.Paths.{Path}
 use Rattle.kernel_model.specs.declared.kernel_calls.payload.Payload.{Payload}
 use Rattle.kernel_model.specs.declared.kernel_calls.payload.Payload.TheVariants.{Number, Nothing, OnePath, PathFlags}
 use Rattle.kernel_model.specs.declared.kernel_calls.request.Request.{Request}
-use Rattle.kernel_model.specs.declared.kernel_calls.request.Request.TheVariants.{Stat, Open as AskOpen, Socket as AskSocket, Mode}
+use Rattle.kernel_model.specs.declared.kernel_calls.request.Request.TheVariants.{Stat, Open as AskOpen, Mode}
 use Rattle.kernel_model.specs.declared.kernel_calls.rule.Rule.{Rule}
 use Rattle.kernel_model.specs.declared.kernel_calls.rule.Rule.TheVariants as rule
 use Rattle.kernel_model.specs.Effects.{af_unix}

@@ -7,7 +7,6 @@ use Rattle.filter_settings.specs.call_table.Members.{is_first}
 use Rattle.kernel_model.specs.site_table.declared.row.Row.{Row}
 use Rattle.kernel_model.specs.site_table.Kinds.{is_dir, is_exe}
 use Rattle.kernel_model.specs.site_table.Table.{Site}
-use Rattle.filter_settings.specs.linux_numbers.declared.namespaces.NamespaceType.{NamespaceType}
 use Rattle.filter_settings.specs.linux_numbers.declared.namespaces.NamespaceType.TheVariants.{Cgroup, Ipc, Net, Mnt, Pid, User, Uts}
 use Rattle.kernel_laws.specs.declared.question_types.question.Question.{Question}
 use Rattle.kernel_laws.specs.declared.question_types.question.Question.TheVariants.{Path as ByPath, Call, Socket, Namespace as Ns, MapWx}

@@ -1,6 +1,6 @@
 -- A process sets up a ring, and a request to it shows a question.
 use Rattle.std.proofs.Common.{◌≡◌, ℕ, Bool, true, false, List, [], ◌∷◌, ◌++◌, Option, Some, None, refl, ap, ◌∙◌, arith, ◌<◌}
-use Rattle.std.specs.Prelude.{◌^◌, ◌&&◌}
+use Rattle.std.specs.Prelude.{◌^◌}
 use Rattle.std.proofs.lemmas.Bool.{and_parts}
 use Rattle.launcher.specs.abs_path.Paths.{Path}
 use Rattle.launcher.specs.call_table.declared.call_names.rule.CallRule.TheVariants as known

@@ -55,7 +55,7 @@ use Rattle.kernel_ways.specs.Ways.{place_of, Way, here, IsSolo}
 use Rattle.kernel_ways.proofs.Solo.{way_join}
 use Rattle.kernel_ways.proofs.Lines.{same_rule, Line, first_by, low_number, some_line, line_at, any_at, of_abi}
 use Rattle.kernel_ways.proofs.Operations.{PathCall, Performed, creates_mode, see_path, read_path, write_path, exec_path}
-use Rattle.kernel_ways.proofs.ByRing.{Ringing, mode_asked, read_asked, ring_behind, ringing, see_asked, socket_asked, write_asked}
+use Rattle.kernel_ways.proofs.ByRing.{mode_asked, read_asked, ring_behind, ringing, see_asked, socket_asked, write_asked}
 use Rattle.launcher.specs.kernel_model.declared.kernel_calls.request.Request.TheVariants as ask
 use Rattle.kernel_ways.proofs.Performing as performing
 use Rattle.std.proofs.Common.{cond}

@@ -1,5 +1,5 @@
 -- The chosen calls that set up a ring and submit a request to it show what the request asks for.
-use Rattle.std.proofs.Common.{◌≡◌, ℕ, true, List, [], ◌∷◌, ◌++◌, ap, ◌∙◌, sym, subst, append_assoc}
+use Rattle.std.proofs.Common.{◌≡◌, true, List, [], ◌∷◌, ◌++◌, ap, ◌∙◌, sym, subst, append_assoc}
 use Rattle.std.proofs.lemmas.Bool.{and_parts}
 use Rattle.ceilings.specs.kern_creds.declared.creds.Creds.{Creds}
 use Rattle.ceilings.specs.kern_creds.Ring.{after_set_up_ring}

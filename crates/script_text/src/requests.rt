@@ -1,6 +1,6 @@
 //! Reads the requests to a ring that io_uring_enter(2) carries, by the word of their kind.
 
-ghost use Rattle.std.specs.Prelude.{◌≡◌, map};
+ghost use Rattle.std.specs.Prelude.{map};
 ghost use Rattle.script_text.specs.Payloads.{mode_taken, open_request, open_taken, request_taken, socket_taken, stat_taken};
 ghost use Rattle.script_text.specs.Progress.{ReadsAs, TakesPayload};
 ghost use Rattle.script_text.specs.declared.error.ScriptCause.TheVariants.{Payload as PayloadCause};
