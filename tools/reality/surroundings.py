@@ -45,7 +45,7 @@ def plan_of(
             if entry.writable != is_writable:
                 key = (f"{_mode(entry.writable)} here, {_mode(is_writable)} there", "DENIED" if is_writable else "OPEN")
                 differing.setdefault(key, []).append(path)
-        if "noexec" not in here.options and seen == "host" and rows[path] != "file":
+        if "noexec" not in here.options and seen == "host" and rows[path] not in ("file", "dev"):
             is_executable = "noexec" not in there.options
             if entry.executable != is_executable:
                 key = (f"{_run(entry.executable)} here, {_run(is_executable)} there", "DENIED" if is_executable else "OPEN")
