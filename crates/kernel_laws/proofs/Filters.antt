@@ -46,6 +46,7 @@ bare_is operation own (pay.Sets permitted effective inheritable) e = cc
 bare_is operation own (pay.Ids ids) e = cc
 bare_is operation own (pay.Number number) e = cc
 bare_is operation own (pay.Code bytes) e = cc
+bare_is operation own (pay.Ring request) e = cc
 
 -- a line of this number, with this rule
 pub record HasRule (calls : List CallLine) (nr : ℕ) (rule : Rule) : Type 0 where

@@ -84,7 +84,7 @@ module _ (launch : Launch) (l : IsLaunched launch) (uids gids : Bool) where
   way_spares here u g world s = tt
   way_spares (by_creds {rest = rest} call m more) u g world s =
       let h = heads call rest u g in
-      (spare_one m h.0 world s, way_spares more h.1 h.2 _ (solo_creds launch _ _ world s _ call _ m))
+      (spare_one m h.0 world s, way_spares more h.1 h.2 _ (solo_creds launch _ _ world s _ call _ _ m))
   way_spares (by_table {rest = rest} call m more) u g world s =
       let h = heads call rest u g in
       (spare_one m h.0 world s, way_spares more h.1 h.2 _ (solo_table launch _ _ world s _ call _ m))
