@@ -2,6 +2,7 @@
 pub use Rattle.kernel_ways.proofs.Attained as Attained
 pub use Rattle.kernel_ways.proofs.BlindShown as BlindShown
 pub use Rattle.kernel_ways.proofs.ByName as ByName
+pub use Rattle.kernel_ways.proofs.ByRing as ByRing
 pub use Rattle.kernel_ways.proofs.Choices as Choices
 pub use Rattle.kernel_ways.proofs.Operations as Operations
 pub use Rattle.kernel_ways.proofs.Entering as Entering
@@ -17,5 +18,6 @@ pub use Rattle.kernel_ways.proofs.Privileged as Privileged
 pub use Rattle.kernel_ways.proofs.Rows as Rows
 pub use Rattle.kernel_ways.proofs.Serving as Serving
 pub use Rattle.kernel_ways.proofs.Showing as Showing
+pub use Rattle.kernel_ways.proofs.Shown as Shown
 pub use Rattle.kernel_ways.proofs.Solo as Solo
 pub use Rattle.kernel_ways.proofs.Starts as Starts

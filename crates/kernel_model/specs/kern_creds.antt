@@ -4,6 +4,7 @@ pub use Rattle.kern_creds.specs.Enter as Enter
 pub use Rattle.kern_creds.specs.Exec as Exec
 pub use Rattle.kern_creds.specs.Ids as Ids
 pub use Rattle.kern_creds.specs.Prctl as Prctl
+pub use Rattle.kern_creds.specs.Ring as Ring
 pub use Rattle.kern_creds.specs.RootChange as RootChange
 pub use Rattle.kern_creds.specs.Setgroups as Setgroups
 pub use Rattle.kern_creds.specs.Setresuid as Setresuid
