@@ -80,9 +80,9 @@ attributes_pass launch e off = by (lets launch SchedulesRealtime) off e
 pub creat_passes : (launch : Launch) → is_open launch SuidBit ≡ true → lets launch SetsMode ≡ false → lets launch OpensMode ≡ false
     → can_submit launch ≡ false → can_create launch (power_of launch) ≡ true
 creat_passes launch e sets makes rings =
-    ap (λ b. ((b || lets launch OpensMode) || can_submit launch) || can_create launch (power_of launch)) (sym sets)
+    ap (λ b. b || can_create launch (power_of launch)) (sym rings)
     ∙ ap (λ b. (b || can_submit launch) || can_create launch (power_of launch)) (sym makes)
-    ∙ ap (λ b. b || can_create launch (power_of launch)) (sym rings) ∙ e
+    ∙ ap (λ b. ((b || lets launch OpensMode) || can_submit launch) || can_create launch (power_of launch)) (sym sets) ∙ e
 
 -- then creat(2) passes with a set-id bit
 pub creates_pass : (launch : Launch) → can_create launch (power_of launch) ≡ true → lets launch CreatesMode ≡ true
