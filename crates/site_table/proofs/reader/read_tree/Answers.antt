@@ -39,7 +39,7 @@ returns-in_err-groups c =
 pub new-requires : goal.new-requires
 new-requires c =
     let site = view c.args.site.now in
-    let begun : IsBegun site c.in-Some.dynamic_uid c.in-Some.user_namespaces c.in-Some.systemd c.rings_at-io_uring.result = record { top = c.in-Some.ensures; rings = sym c.rings_at-io_uring.ensures; size = sym c.is_too_large.ensures ∙ c.if-is_too_large.false } in
+    let begun : IsBegun site c.in-Some.dynamic_uid c.in-Some.user_namespaces c.in-Some.systemd c.rings_at-io_uring.result = record { top = c.in-Some.ensures; rings = sym c.rings_at-io_uring.ensures.stated_or_missing; size = sym c.is_too_large.ensures ∙ c.if-is_too_large.false } in
     let rows_read = subst (λ (rows : List Data). unless_fault (row_faults rows) (rows_in_order (with_fixed (map row_of rows))) ≡ Ok c.in_ok-rows.rows.items) c.elements_at.ensures.all_in_order c.in_ok-rows.ensures.reads_the_rows in
     let users_read = subst (λ (users : List Data). unless_fault (user_faults users) (map user_of users) ≡ Ok c.in_ok-users.users) c.elements_at-2.ensures.all_in_order c.in_ok-users.ensures.reads_the_users in
     let groups_read = subst (λ (groups : List Data). unless_fault (group_faults groups) (map group_of groups) ≡ Ok c.in_ok-groups.groups) c.elements_at-3.ensures.all_in_order c.in_ok-groups.ensures.reads_the_groups in
@@ -51,7 +51,7 @@ new-requires c =
 pub returns : goal.returns
 returns c =
     let site = view c.args.site.now in
-    let begun : IsBegun site c.in-Some.dynamic_uid c.in-Some.user_namespaces c.in-Some.systemd c.rings_at-io_uring.result = record { top = c.in-Some.ensures; rings = sym c.rings_at-io_uring.ensures; size = sym c.is_too_large.ensures ∙ c.if-is_too_large.false } in
+    let begun : IsBegun site c.in-Some.dynamic_uid c.in-Some.user_namespaces c.in-Some.systemd c.rings_at-io_uring.result = record { top = c.in-Some.ensures; rings = sym c.rings_at-io_uring.ensures.stated_or_missing; size = sym c.is_too_large.ensures ∙ c.if-is_too_large.false } in
     let rows_read = subst (λ (rows : List Data). unless_fault (row_faults rows) (rows_in_order (with_fixed (map row_of rows))) ≡ Ok c.in_ok-rows.rows.items) c.elements_at.ensures.all_in_order c.in_ok-rows.ensures.reads_the_rows in
     let users_read = subst (λ (users : List Data). unless_fault (user_faults users) (map user_of users) ≡ Ok c.in_ok-users.users) c.elements_at-2.ensures.all_in_order c.in_ok-users.ensures.reads_the_users in
     let groups_read = subst (λ (groups : List Data). unless_fault (group_faults groups) (map group_of groups) ≡ Ok c.in_ok-groups.groups) c.elements_at-3.ensures.all_in_order c.in_ok-groups.ensures.reads_the_groups in
