@@ -62,6 +62,7 @@ impl State {
         let user = self.processes[place].user;
         let mut child = self.processes[place].copy()?;
         child.namespace = self.namespaces.len() as u32 + 1;
+        // With room for the child, nothing fails once the mount namespace is there.
         self.processes.reserve(1)?;
         add_copy(&mut self.namespaces, at, user)?;
         self.processes.push(child)?;
@@ -150,6 +151,7 @@ impl State {
         child.user = user;
         child.creds.enter();
         child.namespace = self.namespaces.len() as u32 + 1;
+        // With room for the child, nothing fails once the mount namespace is there.
         self.processes.reserve(1)?;
         add_copy(&mut self.namespaces, at, user)?;
         self.processes.push(child)?;
