@@ -10,6 +10,7 @@ pub mod Mounted
 pub mod Outside
 pub mod Prefixed
 pub mod Reasons
+pub mod Searching
 pub mod Seen
 pub mod Whole
 pub mod OtherSites

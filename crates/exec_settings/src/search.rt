@@ -99,9 +99,8 @@ fn first_exe(
     ensures { IfOk result (λ path. path ≡ find (has_exe site.now) (filter_map (path_in name.now) (map (λ folder. folder.now) folders.now))) }
 {
     for folder in folders {
-        let path = exe_in(alloc, site, name, folder)?;
-        if path.is_some() {
-            return Ok(path);
+        if let Some(path) = exe_in(alloc, site, name, folder)? {
+            return Ok(Some(path));
         }
     }
     Ok(None)
