@@ -1,7 +1,8 @@
 //! Tests which rows of the site can be seen, read, written and executed.
 
 ghost use Rattle.std.specs.Prelude.{◌≡◌, ◌&&◌, not, option_copied, slice_get};
-ghost use Rattle.ceilings.specs.kernel_laws.Bound.{can_create, can_reach, ceiling, is_barred, is_to_exec, open_at, power_of, runs_plainly};
+ghost use Rattle.std.specs.List.{list_any};
+ghost use Rattle.ceilings.specs.kernel_laws.Bound.{can_create, can_reach, can_write, ceiling, is_barred, is_to_exec, open_at, power_of, runs_plainly};
 ghost use Rattle.ceilings.specs.kernel_laws.Launched.{IsLaunchedWorld, launch_of, can_make_user};
 ghost use Rattle.ceilings.specs.kernel_laws.declared.question_types.question.Question.TheVariants.{Path as ByPath};
 ghost use Rattle.ceilings.specs.Leads.{leads_of};
@@ -9,7 +10,7 @@ ghost use Rattle.ceilings.specs.Own.{IsCeilingOf};
 
 use crate::lines::{makes_user, passes};
 use ceilings::{Ceiling, Row, RowLeads, can_write, is_barred, mount_wish, reach_by, runs_plainly};
-use questions::{CallKind, Wish, World};
+use questions::{CallKind, Power, Wish, World};
 
 // Returns whether the wish is to execute a barred row, no mount with nosuid leads to it, and no user namespace can be
 // made. Then execve refuses the row by its marks: it does not look at them only on such a mount, and the bounding set is
@@ -48,18 +49,22 @@ fn listed_row<'a>(world: &'a World<'_>, at: usize) -> Option<&'a Row>
     world.site_table().rows().get(at)
 }
 
+// Returns whether some row can be written at this power.
+fn writes_some(world: &World<'_>, power: Power) -> bool
+    requires launched { IsLaunchedWorld world.now }
+    ensures { result ≡ list_any (can_write (launch_of world.now) power) (launch_of world.now).site.rows }
+{
+    let rows = world.site_table().rows();
+    rows.iter().any(|row| can_write(world, power, row))
+}
+
 /// Returns whether creat(2) passes with a set-id bit, and some file can be written.
 pub(crate) fn can_create(world: &World<'_>, top: &Ceiling) -> bool
     requires launched { IsLaunchedWorld world.now }
     requires its_own_ceiling { IsCeilingOf (launch_of world.now) top.now }
     ensures { let launch = launch_of world.now in result ≡ can_create launch (power_of launch) }
 {
-    passes(world, top, CallKind::CreatesMode)
-        && world
-            .site_table()
-            .rows()
-            .iter()
-            .any(|row| can_write(world, top.power, row))
+    passes(world, top, CallKind::CreatesMode) && writes_some(world, top.power)
 }
 
 /// Returns whether the wish for the row of this number is open.
