@@ -33,7 +33,6 @@ use Rattle.ceilings.specs.kernel_ways.Ways.{Way, here, by_creds, CallAt, IsSolo,
 use Rattle.ceilings.proofs.OfKernelWays.Solo.{way_join}
 use Rattle.ceilings.proofs.OfKernelWays.Attained.{uids_after}
 use Rattle.ceilings.proofs.OfKernelWays.Gains as gains
-use Rattle.ceilings.proofs.OfKernelWays.Gains.{Basis}
 use Rattle.ceilings.proofs.OfKernelLaws.Bound.{any_listed}
 use Rattle.ceilings.proofs.OfKernelWays.Ids.{owner_is, other_way}
 use Rattle.ceilings.proofs.OfKernelWays.Privileged as privileged
