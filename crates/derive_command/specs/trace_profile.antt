@@ -8,5 +8,4 @@ pub mod Derived
 pub mod Only
 pub mod Foretelling
 pub mod Searching
-pub mod Finding
 pub mod allow_laws

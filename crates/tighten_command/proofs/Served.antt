@@ -25,14 +25,13 @@ use Rattle.asked_service.specs.launcher.declared.launched.Launched.{Launched as 
 use Rattle.asked_service.specs.kernel_laws.declared.question_types.question.Question.{Question}
 use Rattle.asked_service.specs.site_table.Table.{Site}
 use Rattle.tighten_command.specs.tightening.Items.{has, in_order, tightened}
-use Rattle.tighten_command.specs.tightening.Searching.{IsHeld, IsMost, IsOver, IsServing, Lacks, LacksFirst, Pleasing, Tells}
-use Rattle.tighten_command.specs.tightening.Tight.{AreCounts, Denies, IsTight, RefusesWish, Tightens}
+use Rattle.tighten_command.specs.tightening.Searching.{IsHeld, IsMost, IsOver, IsServing, Lacks, Pleasing, Tells}
+use Rattle.tighten_command.specs.tightening.Tight.{AreCounts, Denies, IsTight, RefusesWish}
 use Rattle.tighten_command.specs.tightening.Tried.{Displeases, IsFirst, IsGranted, IsKept, IsShut, Pleases, Refuses, Serves, Stops, Tried}
 use Rattle.tighten_command.specs.tightening.Tried.{denies, displeases, not_launched, refuses}
 use Rattle.tighten_command.specs.declared.tightening.searching.Held.{Held}
 use Rattle.tighten_command.specs.declared.tightening.tight.Tight.{Tight}
 use Rattle.tighten_command.specs.declared.tightening.tight.TightenError.{TightenError}
-use Rattle.tighten_command.specs.declared.tightening.tight.TightenError.TheVariants as error
 use Rattle.tighten_command.specs.declared.tightening.trial.Lack.{Lack}
 use Rattle.tighten_command.specs.declared.tightening.trial.Lack.TheVariants.{Keep, Wish}
 use Rattle.tighten_command.proofs.Found.{first_in}
@@ -215,24 +214,17 @@ module _ (tried : Tried) where
       → IsLaunchedUnit tried.unit tried.table tried.site own
   own_service service own is launched = subst (IsLaunchedUnit tried.unit tried.table tried.site) (sym is) launched
 
-  -- its own service lacks something
-  pub denies_one : (service : Service) → IsLaunchedUnit tried.unit tried.table tried.site service → (number : ℕ)
-      → Lacks tried service.world (Some (Keep number)) → Denies tried number
-  denies_one service launched number first = record { service = service; launched = launched; first = first }
+  -- it denies a question to be kept
+  pub denies_one : (service : Service) → IsLaunchedUnit tried.unit tried.table tried.site service → (number told : ℕ) → number ≡ told
+      → Lacks tried service.world (Some (Keep number)) → Denies tried told
+  denies_one service launched number told same first = subst (Denies tried) same
+      (record { service = service; launched = launched; first = first })
 
-  pub refuses_one : (service : Service) → IsLaunchedUnit tried.unit tried.table tried.site service → (number : ℕ)
-      → Lacks tried service.world (Some (Wish number)) → RefusesWish tried number
-  refuses_one service launched number lacks = record { service = service; launched = launched; refuses = lacks }
-
-  -- which is told
-  pub lacks_one : (service : Service) → IsLaunchedUnit tried.unit tried.table tried.site service → (why : TightenError)
-      → LacksFirst tried service.world (Err why) → Tightens tried (Err why)
-  lacks_one service launched (error.Keep number) lacks = denies_one service launched number lacks
-  lacks_one service launched (error.Wish number) lacks = refuses_one service launched number lacks
-  lacks_one service launched (error.NotLaunched (refusal.Settings own)) lacks = absurd lacks
-  lacks_one service launched (error.NotLaunched (refusal.Plan own)) lacks = absurd lacks
-  lacks_one service launched (error.NotLaunched (refusal.Launch own)) lacks = absurd lacks
-  lacks_one service launched (error.NotLaunched refusal.Memory) lacks = tt
+  -- it keeps them, and refuses a wish
+  pub refuses_one : (service : Service) → IsLaunchedUnit tried.unit tried.table tried.site service → (number told : ℕ) → number ≡ told
+      → Lacks tried service.world (Some (Wish number)) → RefusesWish tried told
+  refuses_one service launched number told same lacks = subst (RefusesWish tried) same
+      (record { service = service; launched = launched; refuses = lacks })
 
 -- what holds of an error holds of a result that passes it on
 pub at_error : {R : Type 0} (P : Result R TightenError → Type 0) (result : Result R TightenError) (error : TightenError)

@@ -1,5 +1,5 @@
 -- The text for a unit that is tightened, and for one that is not. If memory runs out, there is no text.
-use Rattle.std.specs.Prelude.{◌≡◌, ℕ, List, Result, Ok, Err}
+use Rattle.std.specs.Prelude.{ℕ, List, Result, Ok, Err}
 use Rattle.asked_service.specs.unit_inputs.declared.command_answers.exit_status.ExitStatus.{ExitStatus}
 use Rattle.asked_service.specs.unit_inputs.declared.command_answers.exit_status.ExitStatus.TheVariants.{Done, LaunchRefused, Refused}
 use Rattle.asked_service.specs.unit_inputs.declared.command_answers.error.CommandError.{CommandError}
@@ -12,8 +12,6 @@ use Rattle.asked_service.specs.plan_command.Refusals.{error_line}
 use Rattle.tighten_command.specs.tightening.Tight.{Denies, IsTight, RefusesWish}
 use Rattle.tighten_command.specs.tightening.Tried.{Tried}
 use Rattle.tighten_command.specs.declared.tightening.tight.Tight.{Tight}
-use Rattle.tighten_command.specs.declared.tightening.tight.TightenError.{TightenError}
-use Rattle.tighten_command.specs.declared.tightening.tight.TightenError.TheVariants.{NotLaunched, Keep, Wish}
 use Rattle.asked_service.specs.launching.Refusals.{launch_line}
 use Rattle.asked_service.specs.launcher.declared.error.LaunchError.{LaunchError}
 use Rattle.asked_service.specs.unit_inputs.SettingsRefusals.{settings_line}
@@ -33,15 +31,6 @@ pub data TellsTight (unit : List ℕ) (tried : Tried) : ExitStatus → List ℕ 
       → TellsTight unit tried LaunchRefused (launch_line refused)
   denies : (number : ℕ) → Denies tried number → TellsTight unit tried Refused (keep_line unit number)
   refuses_wish : (number : ℕ) → RefusesWish tried number → TellsTight unit tried Refused (wish_line unit number)
-
--- the text of the reason why nothing is added
-abbrev pub TellsError : List ℕ → TightenError → ExitStatus → List ℕ → Type 0
-TellsError unit (NotLaunched (refusal.Settings error)) status text = (status ≡ Refused) × (text ≡ settings_line unit error)
-TellsError unit (NotLaunched (refusal.Plan error)) status text = (status ≡ Refused) × (text ≡ error_line unit error)
-TellsError unit (NotLaunched (refusal.Launch refused)) status text = (status ≡ LaunchRefused) × (text ≡ launch_line refused)
-TellsError unit (NotLaunched refusal.Memory) status text = ⊥
-TellsError unit (Keep number) status text = (status ≡ Refused) × (text ≡ keep_line unit number)
-TellsError unit (Wish number) status text = (status ≡ Refused) × (text ≡ wish_line unit number)
 
 -- what is ready, or the line of the refusal, is such, unless memory ran out
 abbrev pub IsTold : (ExitStatus → List ℕ → Type 0) → Result ReadyText CommandError → Type 0

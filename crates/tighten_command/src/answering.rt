@@ -2,8 +2,9 @@
 ghost use Rattle.std.specs.Prelude.{◌≡◌, ◌≤◌, Contains, IsErrOf};
 ghost use Rattle.std.specs.List.{All};
 ghost use Rattle.asked_service.specs.kernel_laws.Questions.{questions};
+ghost use Rattle.asked_service.specs.unit_inputs.command_answers.ReadyTexts.{IsReadyWith};
 ghost use Rattle.tighten_command.specs.tightening.Tried.{tried_with};
-ghost use Rattle.tighten_command.specs.Telling.{IsTold, TellsError, TellsTight};
+ghost use Rattle.tighten_command.specs.Telling.{IsTold, TellsTight};
 ghost use Rattle.tighten_command.specs.Lines.{tight_text};
 ghost use Rattle.asked_service.specs.unit_inputs.declared.command_answers.exit_status.ExitStatus.TheVariants.{Done};
 
@@ -18,23 +19,12 @@ use std::alloc::Global;
 // What can be added.
 fn tell_tight(alloc: Global, tight: &Tight) -> Result<ReadyText, CommandError>
     requires are_items { All (λ item. (1 ≤ item) × (item ≤ 17)) tight.now.items }
-    ensures { IsTold (λ status text. (status ≡ Done) × (text ≡ tight_text tight.now)) result }
+    ensures { IsReadyWith (λ status text. (status ≡ Done) × (text ≡ tight_text tight.now)) result }
 {
     Ok(ReadyText {
         text: tight_text(alloc, tight)?,
         status: ExitStatus::Done,
     })
-}
-
-// The text of the reason why nothing can be added.
-fn tell_error(alloc: Global, name: &str, error: TightenError) -> Result<ReadyText, CommandError>
-    ensures { IsTold (TellsError name.now error) result }
-{
-    match error {
-        TightenError::NotLaunched(refusal) => tell_refusal(alloc, name, refusal),
-        TightenError::Keep(number) => Err(refuse(keep_line(alloc, name, number))),
-        TightenError::Wish(number) => Err(refuse(wish_line(alloc, name, number))),
-    }
 }
 
 /// Tightens the unit, and prints the items that can be added. Otherwise it says why the unit has no settings, no plan or no
@@ -54,6 +44,8 @@ pub fn answer(
 {
     match tighten(alloc, unit, calls, site, keep, wishes) {
         Ok(tight) => tell_tight(alloc, &tight),
-        Err(error) => tell_error(alloc, name, error),
+        Err(TightenError::NotLaunched(refusal)) => tell_refusal(alloc, name, refusal),
+        Err(TightenError::Keep(number)) => Err(refuse(keep_line(alloc, name, number))),
+        Err(TightenError::Wish(number)) => Err(refuse(wish_line(alloc, name, number))),
     }
 }

@@ -1,5 +1,5 @@
 -- The least list of names with which a unit answers a script as with all names.
-use Rattle.std.specs.Prelude.{◌≡◌, ◌≢◌, ⊤, ℕ, Bool, true, false, List, Some, None, Result, Ok, Err}
+use Rattle.std.specs.Prelude.{◌≡◌, ◌≢◌, ℕ, Bool, true, false, List}
 use Rattle.std.specs.List.{All}
 use Rattle.asked_service.specs.call_table.Table as calls
 use Rattle.asked_service.specs.dropin_merge.declared.resolved.Resolved.{Resolved}
@@ -15,11 +15,7 @@ use Rattle.asked_service.specs.launcher.declared.launched.Launched.{Launched as 
 use Rattle.asked_service.specs.site_table.Table.{Site}
 use Rattle.derive_command.specs.trace_profile.Extended.{extended, open_unit}
 use Rattle.derive_command.specs.trace_profile.Names.{AreNames, without}
-use Rattle.derive_command.specs.trace_profile.PlainNames.{HasPlainNames, IsBesideDefault}
-use Rattle.derive_command.specs.trace_profile.Scripts.{first_seccomp}
-use Rattle.derive_command.specs.declared.trace_profile.derived.DeriveError.{DeriveError}
-use Rattle.derive_command.specs.declared.trace_profile.derived.DeriveError.TheVariants.{Seccomp, NotLaunched}
-use Rattle.derive_command.specs.declared.trace_profile.derived.Derived.{Derived}
+use Rattle.derive_command.specs.trace_profile.PlainNames.{IsBesideDefault}
 
 -- what lists of names are tried on: a unit over a table of calls and a site, a script, and the replies that are wanted
 pub record Tried : Type 0 where
@@ -70,15 +66,6 @@ pub record IsOnlyOne (unit : Resolved) (table : calls.Table) (site : Site) (scri
   pub beside_default : All (IsBesideDefault table) names
   pub only : (others : List ℕ) → IsDerived unit table site script others
       → (is_257 unit.systemd ≡ true → KeepAlike unit table names others) → others ≡ names
-
--- what is derived: nothing where the script asks to push a program, and where the unit that allows every call is not launched
-abbrev pub Derives : Resolved → calls.Table → Site → List Call → Result Derived DeriveError → Type 0
-Derives unit table site script (Ok derived) =
-    (first_seccomp table script ≡ None) × IsDerived unit table site script derived.names ×
-    (HasPlainNames table → IsOnlyOne unit table site script derived.names)
-Derives unit table site script (Err (Seccomp number)) = first_seccomp table script ≡ Some number
-Derives unit table site script (Err (NotLaunched error)) =
-    (first_seccomp table script ≡ None) × IsNotLaunched (open_unit unit table) table site error
 
 -- a list that was tried serves or fails
 abbrev pub Tells : Tried → List ℕ → Bool → Type 0

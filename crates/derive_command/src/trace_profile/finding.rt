@@ -1,13 +1,12 @@
 //! The least list, derived.
 
+ghost use Rattle.std.specs.Prelude.{◌≡◌, ◌↔◌, ℕ, All, IfOk, IfErr, IsErrOf, IsTrue, List, None, Some, length};
+ghost use Rattle.asked_service.specs.declared.launching.refusal.Refusal.{Refusal};
 ghost use Rattle.asked_service.specs.launching.Launched.{IsNotLaunched};
 ghost use Rattle.asked_service.specs.unit_names.Versions.{is_257};
-ghost use Rattle.derive_command.specs.trace_profile.Derived.{Derives, tried_with};
-ghost use Rattle.derive_command.specs.trace_profile.Extended.{extended};
-ghost use Rattle.derive_command.specs.trace_profile.Finding.{DerivesOpen};
-ghost use Rattle.std.specs.Prelude.{◌≡◌, ℕ, All, IfOk, IfErr, IsTrue, List, None, length};
-ghost use Rattle.derive_command.specs.trace_profile.Derived.{IsLeast, IsOnlyOne};
-ghost use Rattle.derive_command.specs.trace_profile.PlainNames.{IsReadFrom};
+ghost use Rattle.derive_command.specs.trace_profile.Derived.{IsDerived, IsLeast, IsOnlyOne, tried_with};
+ghost use Rattle.derive_command.specs.trace_profile.Extended.{extended, open_unit};
+ghost use Rattle.derive_command.specs.trace_profile.PlainNames.{HasPlainNames, IsReadFrom};
 ghost use Rattle.derive_command.specs.trace_profile.Scripts.{first_seccomp};
 ghost use Rattle.derive_command.specs.trace_profile.Searching.{AreServing, DifferInPrograms, IsHeard, IsHeardOf, tried_of};
 ghost use Rattle.asked_service.specs.kernel_model.kernel_calls.Calls.{IsCall};
@@ -86,7 +85,8 @@ fn derive_open(
     script: &Script,
 ) -> Result<Derived, Refusal>
     requires pushes_none { first_seccomp calls.now script.now ≡ None }
-    ensures { DerivesOpen unit.now calls.now site.now script.now result }
+    ensures least_list { IfOk result (λ derived. IsDerived unit.now calls.now site.now script.now derived.names) }
+    ensures refused { IfErr result (IsNotLaunched (open_unit unit.now calls.now) calls.now site.now) }
 {
     let every = every_name(alloc, calls)?;
     let heard = heard_with(alloc, unit, calls, site, &every, script.list())?;
@@ -132,9 +132,15 @@ pub fn derive(
     site: &SiteTable,
     script: &Script,
 ) -> Result<Derived, DeriveError>
-    ensures derives { Derives unit.now calls.now site.now script.now result }
+    ensures least_list { IfOk result (λ derived. IsDerived unit.now calls.now site.now script.now derived.names) }
+    ensures only_list_over_plain_names { IfOk result (λ derived. HasPlainNames calls.now
+        → IsOnlyOne unit.now calls.now site.now script.now derived.names) }
     ensures only_list_over_a_read_table { IfOk result (λ derived. (bytes : List ℕ) → IsReadFrom bytes calls.now
         → IsOnlyOne unit.now calls.now site.now script.now derived.names) }
+    ensures seccomp_refusal { (number : ℕ) → IsErrOf result (DeriveError.Seccomp number)
+        ↔ (first_seccomp calls.now script.now ≡ Some number) }
+    ensures launch_refusal { (why : Refusal) → IsErrOf result (DeriveError.NotLaunched why)
+        → IsNotLaunched (open_unit unit.now calls.now) calls.now site.now why }
 {
     if let Some(number) = first_seccomp(calls, script.list()) {
         return Err(DeriveError::Seccomp(number));

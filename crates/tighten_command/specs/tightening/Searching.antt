@@ -1,5 +1,5 @@
 -- A search for a set that serves, with no more.
-use Rattle.std.specs.Prelude.{◌≡◌, ◌⊎◌, ◌+◌, ◌<◌, ◌≤◌, ℕ, true, false, not, List, ◌∷◌, Option, Some, None, Result, Ok, Err, Contains, filter, length}
+use Rattle.std.specs.Prelude.{◌≡◌, ◌⊎◌, ◌+◌, ◌<◌, ◌≤◌, ℕ, true, false, not, List, ◌∷◌, Option, Some, None, Contains, filter, length}
 use Rattle.std.specs.List.{All, range_with_len}
 use Rattle.asked_service.specs.Asked.{IsBounded}
 use Rattle.asked_service.specs.declared.bounding.Bounded.{Bounded}
@@ -10,9 +10,6 @@ use Rattle.tighten_command.specs.tightening.Items.{has, tightened}
 use Rattle.tighten_command.specs.tightening.Tried.{Displeases, IsFirst, IsKept, IsShut, Pleases, Refuses, Stops, Tried, tried_with}
 use Rattle.tighten_command.specs.tightening.Wishes.{Wishes}
 use Rattle.tighten_command.specs.declared.tightening.searching.Held.{Held}
-use Rattle.asked_service.specs.declared.launching.refusal.Refusal.TheVariants as refusal
-use Rattle.tighten_command.specs.declared.tightening.tight.TightenError.{TightenError}
-use Rattle.tighten_command.specs.declared.tightening.tight.TightenError.TheVariants as error
 use Rattle.tighten_command.specs.declared.tightening.trial.Lack.{Lack}
 use Rattle.tighten_command.specs.declared.tightening.trial.Lack.TheVariants.{Keep, Wish}
 use Rattle.tighten_command.specs.declared.tightening.trial.Trial.{Trial}
@@ -37,16 +34,6 @@ abbrev pub Lacks : Tried → World → Option Lack → Type 0
 Lacks tried world None = Pleases tried world
 Lacks tried world (Some (Keep number)) = IsFirst (IsKept world) (IsShut world) tried.keep number
 Lacks tried world (Some (Wish number)) = Refuses tried world number
-
--- the service pleases, or this is lacking first; if memory runs out, nothing is stated
-abbrev pub LacksFirst : Tried → World → Result (Unit {0}) TightenError → Type 0
-LacksFirst tried world (Ok u) = Pleases tried world
-LacksFirst tried world (Err (error.Keep number)) = Lacks tried world (Some (Keep number))
-LacksFirst tried world (Err (error.Wish number)) = Lacks tried world (Some (Wish number))
-LacksFirst tried world (Err (error.NotLaunched (refusal.Settings why))) = ⊥
-LacksFirst tried world (Err (error.NotLaunched (refusal.Plan why))) = ⊥
-LacksFirst tried world (Err (error.NotLaunched (refusal.Launch why))) = ⊥
-LacksFirst tried world (Err (error.NotLaunched refusal.Memory)) = Unit {0}
 
 -- the service pleases, or it is left away because it does not
 abbrev pub Pleasing : Tried → Bounded → Option Bounded → Type 0

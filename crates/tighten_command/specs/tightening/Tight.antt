@@ -1,10 +1,10 @@
 -- How far a unit can be tightened.
-use Rattle.std.specs.Prelude.{◌≡◌, ◌≤◌, ℕ, false, List, [], ◌∷◌, Result, Ok, Err}
+use Rattle.std.specs.Prelude.{◌≡◌, ◌≤◌, ℕ, false, List, [], ◌∷◌}
 use Rattle.std.specs.List.{All}
 use Rattle.std.specs.List.Sorted.{IsStrictlyIncreasing}
 use Rattle.asked_service.specs.call_table.Table as calls
 use Rattle.asked_service.specs.dropin_merge.declared.resolved.Resolved.{Resolved}
-use Rattle.asked_service.specs.launching.Launched.{IsLaunchedUnit, IsNotLaunched}
+use Rattle.asked_service.specs.launching.Launched.{IsLaunchedUnit}
 use Rattle.asked_service.specs.launcher.declared.launched.Launched.{Launched as Service}
 use Rattle.asked_service.specs.site_table.Table.{Site}
 use Rattle.asked_service.specs.Rows.{AreRowsOf, count_denied, count_open}
@@ -12,8 +12,6 @@ use Rattle.asked_service.specs.declared.rows.VerdictRow.{VerdictRow}
 use Rattle.tighten_command.specs.tightening.Items.{has, tightened}
 use Rattle.tighten_command.specs.tightening.Tried.{IsFirst, IsKept, IsShut, Refuses, Serves, Stops, Tried}
 use Rattle.tighten_command.specs.declared.tightening.tight.Tight.{Tight}
-use Rattle.tighten_command.specs.declared.tightening.tight.TightenError.{TightenError}
-use Rattle.tighten_command.specs.declared.tightening.tight.TightenError.TheVariants.{NotLaunched, Keep, Wish}
 
 -- so many questions of the unit's service are denied, and so many open
 pub record AreCounts (unit : Resolved) (table : calls.Table) (site : Site) (denied open' : ℕ) : Type 0 where
@@ -39,15 +37,8 @@ pub record Denies (tried : Tried) (number : ℕ) : Type 0 where
   pub launched : IsLaunchedUnit tried.unit tried.table tried.site service
   pub first : IsFirst (IsKept service.world) (IsShut service.world) tried.keep number
 
--- or it keeps them all, and this wish is the first that is refused
+-- it keeps them all, and this wish is the first that is refused
 pub record RefusesWish (tried : Tried) (number : ℕ) : Type 0 where
   pub service : Service
   pub launched : IsLaunchedUnit tried.unit tried.table tried.site service
   pub refuses : Refuses tried service.world number
-
--- the result of tightening: the unit itself decides first; if memory runs out, nothing is stated
-abbrev pub Tightens : Tried → Result Tight TightenError → Type 0
-Tightens tried (Ok tight) = IsTight tried tight
-Tightens tried (Err (NotLaunched error)) = IsNotLaunched tried.unit tried.table tried.site error
-Tightens tried (Err (Keep number)) = Denies tried number
-Tightens tried (Err (Wish number)) = RefusesWish tried number

@@ -1,5 +1,5 @@
 -- What sets of items are tried on, and which of them serve.
-use Rattle.std.specs.Prelude.{◌≡◌, ◌≢◌, ◌+◌, ℕ, true, false, List, Option, Some, None, Contains, slice_get, take}
+use Rattle.std.specs.Prelude.{◌≡◌, ◌≢◌, ◌+◌, ℕ, true, false, List, Some, Contains, slice_get, take}
 use Rattle.std.specs.List.{All}
 use Rattle.asked_service.specs.call_table.Table as calls
 use Rattle.asked_service.specs.dropin_merge.declared.resolved.Resolved.{Resolved}
@@ -80,8 +80,3 @@ pub record Refuses (tried : Tried) (world : World) (number : ℕ) : Type 0 where
   pub rows : List VerdictRow
   pub are_rows : AreRows world rows
   pub first : IsFirst (IsGranted tried.wishes rows) (λ wish. tried.wishes.Answers rows wish false) tried.wishes.wishes number
-
--- the first bad element is found, or all are good
-abbrev pub Finds : {X : Type 0} → (Good Bad : X → Type 0) → List X → Option ℕ → Type 0
-Finds Good Bad list None = All Good list
-Finds Good Bad list (Some number) = IsFirst Good Bad list number

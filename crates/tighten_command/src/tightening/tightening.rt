@@ -1,10 +1,12 @@
 //! A unit, tightened.
 
-ghost use Rattle.std.specs.Prelude.{[], Contains, IfOk};
+ghost use Rattle.std.specs.Prelude.{[], ℕ, Contains, IfOk, IsErrOf};
 ghost use Rattle.std.specs.List.{All};
+ghost use Rattle.asked_service.specs.declared.launching.refusal.Refusal.{Refusal};
 ghost use Rattle.asked_service.specs.kernel_laws.Questions.{questions};
-ghost use Rattle.tighten_command.specs.tightening.Searching.{CanBeTried, IsOver, IsServing, LacksFirst, tried_of};
-ghost use Rattle.tighten_command.specs.tightening.Tight.{IsTight, Tightens};
+ghost use Rattle.asked_service.specs.launching.Launched.{IsNotLaunched};
+ghost use Rattle.tighten_command.specs.tightening.Searching.{CanBeTried, IsServing, tried_of};
+ghost use Rattle.tighten_command.specs.tightening.Tight.{Denies, IsTight, RefusesWish};
 ghost use Rattle.tighten_command.specs.tightening.Tried.{tried_with};
 
 use crate::tightening::items::in_order;
@@ -48,39 +50,6 @@ fn tight_from<'a>(
     })
 }
 
-// What the unit's own service lacks, if anything is.
-fn lacking(
-    alloc: Global,
-    trial: &Trial<'_>,
-    wishes: &[StoredWish],
-    own: &Bounded<'_>,
-) -> Result<(), TightenError>
-    requires can_be_tried { CanBeTried trial.now }
-    requires over_the_tables { IsOver (tried_of trial.now (⟦<StoredWish as Wished>⟧.wished wishes.now)) own.now }
-    ensures { LacksFirst (tried_of trial.now (⟦<StoredWish as Wished>⟧.wished wishes.now)) own.now.service.world result }
-{
-    match trial.lack(alloc, wishes, own)? {
-        Some(Lack::Keep(number)) => Err(TightenError::Keep(number)),
-        Some(Lack::Wish(number)) => Err(TightenError::Wish(number)),
-        None => Ok(()),
-    }
-}
-
-// The items that can be added, or what the unit's own service lacks.
-fn tighten_trial<'a>(
-    alloc: Global,
-    trial: &Trial<'a>,
-    wishes: &[StoredWish],
-) -> Result<Tight, TightenError>
-    requires can_be_tried { CanBeTried trial.now }
-    ensures { Tightens (tried_of trial.now (⟦<StoredWish as Wished>⟧.wished wishes.now)) result }
-{
-    let service = launch_unit(alloc, trial.unit, trial.calls, trial.site)?;
-    let own = bound(alloc, service)?;
-    lacking(alloc, trial, wishes, &own)?;
-    Ok(tight_from(alloc, trial, wishes, own)?)
-}
-
 /// Adds items to a unit as long as the questions in `keep` stay open and the wishes stay granted.
 ///
 /// The unit with the items serves: it is launched, it denies no question in `keep`, and each wish answers true on the verdicts
@@ -99,7 +68,13 @@ pub fn tighten(
     wishes: &[StoredWish],
 ) -> Result<Tight, TightenError>
     requires listed { All (λ question. Contains (questions calls.now site.now) question) keep.now }
-    ensures tightens { Tightens (tried_with unit.now calls.now site.now keep.now (⟦<StoredWish as Wished>⟧.wished wishes.now)) result }
+    ensures tight { IfOk result (IsTight (tried_with unit.now calls.now site.now keep.now (⟦<StoredWish as Wished>⟧.wished wishes.now))) }
+    ensures launch_refusal { (why : Refusal) → IsErrOf result (TightenError.NotLaunched why)
+        → IsNotLaunched unit.now calls.now site.now why }
+    ensures keep_refusal { (number : ℕ) → IsErrOf result (TightenError.Keep number)
+        → Denies (tried_with unit.now calls.now site.now keep.now (⟦<StoredWish as Wished>⟧.wished wishes.now)) number }
+    ensures wish_refusal { (number : ℕ) → IsErrOf result (TightenError.Wish number)
+        → RefusesWish (tried_with unit.now calls.now site.now keep.now (⟦<StoredWish as Wished>⟧.wished wishes.now)) number }
 {
     let list = questions(alloc, calls, site)?;
     let trial = Trial {
@@ -109,5 +84,11 @@ pub fn tighten(
         keep,
         questions: &list,
     };
-    tighten_trial(alloc, &trial, wishes)
+    let service = launch_unit(alloc, unit, calls, site)?;
+    let own = bound(alloc, service)?;
+    match trial.lack(alloc, wishes, &own)? {
+        Some(Lack::Keep(number)) => Err(TightenError::Keep(number)),
+        Some(Lack::Wish(number)) => Err(TightenError::Wish(number)),
+        None => Ok(tight_from(alloc, &trial, wishes, own)?),
+    }
 }

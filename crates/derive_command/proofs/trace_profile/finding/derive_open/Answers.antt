@@ -1,7 +1,8 @@
 use Rattle.std.proofs.Common.{◌≡◌, ◌∙◌, List, None, length, ap, sym, subst}
-use Rattle.asked_service.specs.declared.launching.refusal.Refusal.TheVariants.{Memory}
+use Rattle.std.specs.Prelude.{IfErr}
 use Rattle.asked_service.specs.kernel_model.declared.kernel_calls.call.Call.{Call}
-use Rattle.derive_command.specs.trace_profile.Finding.{DerivesOpen}
+use Rattle.asked_service.specs.launching.Launched.{IsNotLaunched}
+use Rattle.derive_command.specs.trace_profile.Extended.{open_unit}
 use Rattle.derive_command.specs.trace_profile.Names.{AreNames}
 use Rattle.derive_command.specs.trace_profile.Scripts.{first_seccomp}
 use Rattle.derive_command.specs.trace_profile.Searching.{IsHeard}
@@ -10,18 +11,13 @@ use Rattle.derive_command.proofs.Tried.{at_error, derived_is, every_heard, every
 use Rattle.derive_command.proofs.trace_profile.finding.derive_open.Goals as goal
 use Rattle.derive_command.proofs.trace_profile.finding.derive_open.Goals.{After-differ_in_programs}
 
-pub returns-in_err-heard : goal.returns-in_err-heard
-returns-in_err-heard c =
-    at_error (DerivesOpen c.args.unit.now c.args.calls.now c.args.site.now c.args.script.now) c.from_residual-in_err-heard.result
-    c.in_err-heard.field-0.0 c.from_residual-in_err-heard.ensures.1
+pub returns-in_err-heard-clause-refused : goal.returns-in_err-heard-clause-refused
+returns-in_err-heard-clause-refused c =
+    at_error (λ made. IfErr made (IsNotLaunched (open_unit c.args.unit.now c.args.calls.now) c.args.calls.now c.args.site.now))
+    c.from_residual-in_err-heard.result c.in_err-heard.field-0.0 c.from_residual-in_err-heard.ensures.1
     (not_opened c.args.unit.now c.args.calls.now c.args.site.now c.args.script.now c.in_ok-every.every.items c.deref.result.now
     c.in_ok-every.ensures.all_of_the_table c.deref.ensures.value
     c.in_err-heard.field-0.0 c.in_err-heard.ensures.refused)
-
-pub returns-in_err-names : goal.returns-in_err-names
-returns-in_err-names c =
-    at_error (DerivesOpen c.args.unit.now c.args.calls.now c.args.site.now c.args.script.now) c.from_residual-in_err-names.result Memory
-    c.from_residual-in_err-names.ensures.1 tt
 
 pub begin-requires-clause-serving : goal.begin-requires-clause-serving
 begin-requires-clause-serving c =
@@ -64,8 +60,8 @@ begin-requires-clause-heard c = is_heard (goal.at.begin-requires-clause-heard c)
 pub least-requires-clause-heard : goal.least-requires-clause-heard
 least-requires-clause-heard c = is_heard (goal.at.least-requires-clause-heard c).After-differ_in_programs
 
-pub returns : goal.returns
-returns c =
+pub returns-clause-least_list : goal.returns-clause-least_list
+returns-clause-least_list c =
     derived_is c.args.unit.now c.args.calls.now c.args.site.now c.args.script.now c.in_ok-every.every.items c.deref.result.now
     c.in_ok-every.ensures.all_of_the_table c.deref.ensures.value
     c.in_ok-heard.heard.said.items c.deref-2.result.now c.list.result.now c.list-2.result.now c.in_ok-heard.ensures.replies.serves

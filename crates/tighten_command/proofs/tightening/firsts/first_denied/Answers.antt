@@ -22,18 +22,14 @@ loop-question-preserved c =
           c.loop-question.invariant.kept;
     }
 
-pub returns-else-is_open : goal.returns-else-is_open
-returns-else-is_open c = record {
-  first_that_is_denied =
-      let world = c.args.bounded.now.service.world in
-      first_at (IsKept world) (IsShut world) c.args.keep.now c.loop-question.question-index _ some_question c.loop-question-test.true
-      (omega (arith, c.loop-question.invariant.counted))
-      (shut_by world _ c.is_open-is_open.result c.is_open-is_open.ensures.is_so c.if-is_open.false) c.loop-question.invariant.kept;
-}
+pub returns-else-is_open-clause-first_that_is_denied : goal.returns-else-is_open-clause-first_that_is_denied
+returns-else-is_open-clause-first_that_is_denied c =
+    let world = c.args.bounded.now.service.world in
+    first_at (IsKept world) (IsShut world) c.args.keep.now c.loop-question.question-index _ some_question c.loop-question-test.true
+    (omega (arith, c.loop-question.invariant.counted))
+    (shut_by world _ c.is_open-is_open.result c.is_open-is_open.ensures.is_so c.if-is_open.false) c.loop-question.invariant.kept
 
-pub returns : goal.returns
-returns c = record {
-  first_that_is_denied =
-      subst (All (IsKept c.args.bounded.now.service.world))
-      (take_all c.loop-question.question-index c.args.keep.now c.loop-question-test.false) c.loop-question.invariant.kept;
-}
+pub returns-clause-none_is_denied : goal.returns-clause-none_is_denied
+returns-clause-none_is_denied c =
+    subst (All (IsKept c.args.bounded.now.service.world))
+    (take_all c.loop-question.question-index c.args.keep.now c.loop-question-test.false) c.loop-question.invariant.kept

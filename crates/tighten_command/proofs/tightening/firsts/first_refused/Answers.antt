@@ -19,23 +19,19 @@ loop-wish-preserved g c =
           c.loop-wish.invariant.granted;
     }
 
-pub returns-else-is_granted : goal.returns-else-is_granted
-returns-else-is_granted g c = record {
-  first_that_answers_false =
-      let all = (wishes_by (λ wish. wish.must_open) (λ wish shown answer. (goal.Fn-dyn g).post (wish.test.vtable, wish.test.value) (shown, tt) answer) c.args.wishes.now) in
-      let own = c.wish-item.result in
-      first_at (IsGranted all c.args.rows.now) (λ wish. all.Answers c.args.rows.now wish false) c.args.wishes.now c.loop-wish.wish-index _
-      own c.loop-wish-test.true (omega (arith, c.loop-wish.invariant.counted))
-      (subst (λ wish. all.Answers c.args.rows.now wish false) c.wish-item.is
-      (subst (λ (answer : Bool). all.Answers c.args.rows.now own answer) c.if-is_granted.false
-      (record { shown = _; shows = refl; says = c.answer-is_granted.ensures.says })))
-      c.loop-wish.invariant.granted;
-}
+pub returns-else-is_granted-clause-first_that_answers_false : goal.returns-else-is_granted-clause-first_that_answers_false
+returns-else-is_granted-clause-first_that_answers_false g c =
+    let all = (wishes_by (λ wish. wish.must_open) (λ wish shown answer. (goal.Fn-dyn g).post (wish.test.vtable, wish.test.value) (shown, tt) answer) c.args.wishes.now) in
+    let own = c.wish-item.result in
+    first_at (IsGranted all c.args.rows.now) (λ wish. all.Answers c.args.rows.now wish false) c.args.wishes.now c.loop-wish.wish-index _
+    own c.loop-wish-test.true (omega (arith, c.loop-wish.invariant.counted))
+    (subst (λ wish. all.Answers c.args.rows.now wish false) c.wish-item.is
+    (subst (λ (answer : Bool). all.Answers c.args.rows.now own answer) c.if-is_granted.false
+    (record { shown = _; shows = refl; says = c.answer-is_granted.ensures.says })))
+    c.loop-wish.invariant.granted
 
-pub returns : goal.returns
-returns g c = record {
-  first_that_answers_false =
-      let all = (wishes_by (λ wish. wish.must_open) (λ wish shown answer. (goal.Fn-dyn g).post (wish.test.vtable, wish.test.value) (shown, tt) answer) c.args.wishes.now) in
-      subst (All (IsGranted all c.args.rows.now)) (take_all c.loop-wish.wish-index c.args.wishes.now c.loop-wish-test.false)
-      c.loop-wish.invariant.granted;
-}
+pub returns-clause-all_are_granted : goal.returns-clause-all_are_granted
+returns-clause-all_are_granted g c =
+    let all = (wishes_by (λ wish. wish.must_open) (λ wish shown answer. (goal.Fn-dyn g).post (wish.test.vtable, wish.test.value) (shown, tt) answer) c.args.wishes.now) in
+    subst (All (IsGranted all c.args.rows.now)) (take_all c.loop-wish.wish-index c.args.wishes.now c.loop-wish-test.false)
+    c.loop-wish.invariant.granted

@@ -27,7 +27,7 @@ returns g c =
     (wishes_by (λ wish. wish.must_open)
     (λ wish shown answer. (goal.Fn-dyn g).post (wish.test.vtable, wish.test.value) (shown, tt) answer) c.args.wishes.now))
     c.args.bounded.now.service.world c.in_ok-rows.rows.items c.deref.result.now c.requires.keeps c.in_ok-rows.ensures.one_each_and_so
-    c.deref.ensures.value c.in-None.ensures.first_that_answers_false
+    c.deref.ensures.value c.in-None.ensures.all_are_granted
 
 pub returns-then-is_empty : goal.returns-then-is_empty
 returns-then-is_empty g c =
