@@ -36,6 +36,6 @@ pub returns-in-Err-Wish-clause-answers : goal.returns-in-Err-Wish-clause-answers
 returns-in-Err-Wish-clause-answers g c =
     let tried = tried_with c.args.unit.now c.args.calls.now c.args.site.now c.args.keep.now (wishes_by (λ wish. wish.must_open) (λ wish shown answer. (goal.Fn-dyn g).post (wish.test.vtable, wish.test.value) (shown, tt) answer) c.args.wishes.now) in
     let number = c.in-Err-Wish.number in
-    line_told (TellsTight c.args.name.now tried) (wish_line c.args.name.now number) c.wish_line.result c.refuse-2.result
-    c.refuse-2.ensures.tells_the_line c.wish_line.ensures.names_the_wish
+    line_told (TellsTight c.args.name.now tried) (wish_line c.args.name.now number) c.wish_line.result c.refuse-in-Err-Wish.result
+    c.refuse-in-Err-Wish.ensures.tells_the_line c.wish_line.ensures.names_the_wish
     (refuses_wish number (c.in-Err-Wish.ensures.wish_refusal number (cc)))
