@@ -20,14 +20,14 @@ _NEW_NAMESPACES = 0x02000000 | 0x08000000 | 0x40000000 | 0x00020000 | 0x20000000
 _NEW_USER = 0x10000000
 # What a call asks for, and what is told of it. The calls of ids are those of capabilities(7).
 _ASKING = {
-    "mount": ("mounts", "CAP_SYS_ADMIN"), "umount2": ("unmounts", "CAP_SYS_ADMIN"), "setuid": ("uids", "CAP_SETUID"),
-    "setresuid": ("uids", "CAP_SETUID"), "setgid": ("gids", "CAP_SETGID"), "setresgid": ("gids", "CAP_SETGID"),
-    "setgroups": ("gids", "CAP_SETGID"),
+    "mount": ("mounts", "CAP_SYS_ADMIN"), "umount2": ("unmounts", "CAP_SYS_ADMIN"), "sched_setattr": ("calls", "CAP_SYS_NICE"),
+    **dict.fromkeys(("setuid", "setresuid", "setreuid"), ("uids", "CAP_SETUID")),
+    **dict.fromkeys(("setgid", "setresgid", "setregid", "setgroups"), ("gids", "CAP_SETGID")),
 }  # fmt: skip
 
 
 class State(str, Enum):
-    """How a question stands; `in steps` is open only behind a call that changes mounts, ids or capabilities.
+    """How a question stands; `in steps` is open only behind a call that changes mounts, ids or capabilities, or sets up a ring.
 
     What is `closed by modes` is open in the report, which knows none, and closed by the mode of its file.
     """
@@ -78,17 +78,31 @@ def state_of(answer: Answer) -> State:
     return State.STEPS if before_last(answer) else State.OPEN
 
 
+def _flags_of(call: Call) -> int:
+    """The flags by which a call makes namespaces."""
+    if call.name == "clone3":
+        return int(call.payload[0])
+    return call.args[0] if call.name in ("unshare", "clone") and call.args else 0
+
+
+def _family_of(call: Call) -> int | None:
+    """The number of the family whose sockets a call makes, or the request that it submits to a ring; None where it makes none."""
+    if call.request == "socket":
+        return int(call.payload[1])
+    # Linux looks at the low 32 bits
+    return call.args[0] & 0xFFFFFFFF if call.name in ("socket", "socketpair") and call.args else None
+
+
 def _last_need(call: Call, table: Table) -> Need | None:
     """What a call asks for where it is the last one."""
     if call.name in _ASKING:
         return Need(*_ASKING[call.name])
-    flags = call.args[0] if call.name in ("unshare", "clone") and call.args else 0
+    flags, family = _flags_of(call), _family_of(call)
     if flags & _NEW_USER:
         return Need("user-namespaces", "")
     if flags & _NEW_NAMESPACES:
         return Need("namespaces", "CAP_SYS_ADMIN")
-    name = table.families.get(call.args[0], "") if call.name == "socket" and call.args else call.name
-    asked = table.capabilities.get(name)
+    asked = table.capabilities.get(call.name if family is None else table.families.get(family, ""))
     return Need("calls", asked) if asked else None
 
 
@@ -97,7 +111,7 @@ def needs_of(answer: Answer, table: Table) -> list[Need]:
     ways = before_last(answer)
     found: list[Need] = []
     for at, call in enumerate(answer.calls):
-        if call.name == "execve" and at < len(ways):
+        if call.name in ("execve", "execveat") and at < len(ways):
             need = Need("programs", call.paths[0] if call.paths else "")
         elif call.name == "capset" and at < len(ways):
             need = Need("capset", "")

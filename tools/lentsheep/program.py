@@ -10,6 +10,7 @@ from .build import command_of
 from .home import POLICY, TOP
 from .record import dataclass
 from .report import parse
+from .site_text import profile_of
 from .spawn import make_folder, remove
 from .terminal import doing
 from .values import Printed
@@ -77,7 +78,8 @@ class Program:
     def run(self, *words: str) -> Run:
         """Runs the program, and reads what it prints."""
         status, text = self.text(*words)
-        return Run(words, text, parse(text, words[0] if words else None), status)
+        has_key = words[:1] != ("replay",) or profile_of((self.read("site.toml") or b"").decode("utf-8", "replace")) is not None
+        return Run(words, text, parse(text, words[0] if words else None, has_key), status)
 
     @contextlib.contextmanager
     def changed(self, files: Mapping[str, bytes]) -> Iterator["Program"]:

@@ -41,8 +41,11 @@ _ALONE = Pattern(r"line ([^ ]+) ([0-9]+) ([^ ]+) (?:opens ([0-9]+)|needed)")
 _FLEET_END = Pattern(r"units ([0-9]+) refused ([0-9]+)")
 
 
-def parse(text: str | bytes, command: str | None = None) -> Printed:
-    """What the text is. Without a command, or with one that has no reader, the first line decides."""
+def parse(text: str | bytes, command: str | None = None, has_key: bool = True) -> Printed:
+    """What the text is. Without a command, or with one that has no reader, the first line decides.
+
+    Whether the site has the key `systemd` bears on a replay alone: its calls are those of a script.
+    """
     if isinstance(text, bytes):
         text = text.decode("utf-8", "surrogateescape")
     lines = text.split("\n")
@@ -51,7 +54,7 @@ def parse(text: str | bytes, command: str | None = None) -> Printed:
     refusal = read_refusal(lines[0]) if len(lines) == 1 and not cut else None
     if refusal:
         return reader([], False, refusal)
-    return reader(lines, cut, None)
+    return _replay(lines, cut, None, has_key) if reader is _replay else reader(lines, cut, None)
 
 
 def read_question(text: str) -> Question | None:
@@ -179,14 +182,14 @@ def _filter(lines: list[str], cut: bool, refusal: Refusal | None) -> Filters:
     return Filters(refusal, not cut and (refusal is not None or count is not None), tuple(unread), tuple(filters), count)
 
 
-def _replay(lines: list[str], cut: bool, refusal: Refusal | None) -> Replay:
+def _replay(lines: list[str], cut: bool, refusal: Refusal | None, has_key: bool = True) -> Replay:
     launch, count = None, None
     replies: list[Reply] = []
     unread: list[str] = []
     for line in lines:
         if told := read_launch(line):
             launch = told
-        elif (found := _REPLY.fullmatch(line)) and (call := read_call(found[1])):
+        elif (found := _REPLY.fullmatch(line)) and (call := read_call(found[1], has_key)):
             replies.append(Reply(call, found[2] or found[4], int(found[3]) if found[3] else None))
         elif numbers := _numbers(line, "calls"):
             count = numbers[0]

@@ -75,11 +75,32 @@ class Calls(unittest.TestCase):
             ("1 i386:#102 1", call("1 i386:#102 1", "#102", (), (1,), "i386")),
             ("1 i386:socketcall 2 1", call("1 i386:socketcall 2 1", "socketcall", ("2",), (1,), "i386")),
             ("1 read 18446744073709551615", call("1 read 18446744073709551615", "read", (), (2**64 - 1,))),
+            ("1 openat2 /a%20b 1 0 0 0 24", call("1 openat2 /a%20b 1 0 0 0 24", "openat2", ("/a b", "1"), (0, 0, 0, 24))),
+            ("1 clone3 131072", call("1 clone3 131072", "clone3", ("131072",))),
+            ("1 io_uring_enter", call("1 io_uring_enter", "io_uring_enter")),
+            ("1 io_uring_enter open /a 1 3", call("1 io_uring_enter open /a 1 3", "io_uring_enter", ("open", "/a", "1"), (3,))),
+            ("1 io_uring_enter mode 2048", call("1 io_uring_enter mode 2048", "io_uring_enter", ("mode", "2048"))),
         ]:
             self.assertEqual(wanted, read_call(text), text)
 
+    def test_paths(self):
+        for text, wanted in [
+            ("1 execveat /a", ("/a",)), ("1 openat2 /a 0", ("/a",)), ("1 mount /a /b", ("/a", "/b")), ("1 io_uring_enter stat /a%20b", ("/a b",)),
+            ("1 io_uring_enter open /a 0", ("/a",)), ("1 io_uring_enter socket 1", ()), ("1 clone3 0", ()), ("1 capset 1 2 3", ()),
+        ]:  # fmt: skip
+            self.assertEqual(wanted, read_call(text).paths, text)
+
+    def test_without_the_key(self):
+        # calls that the base profile lacks carry nothing there
+        for text, args in [("1 openat2 0 0 0 24", (0, 0, 0, 24)), ("1 clone3", ()), ("1 sched_setattr 1", (1,)), ("1 io_uring_enter 3 1", (3, 1))]:
+            name = text.split()[1]
+            self.assertEqual(call(text, name, (), args), read_call(text, False), text)
+        replay = parse(f"launched uid 0 gid 0 nnp no steps 4\n1 clone3 -> errno 38\ncalls 1\n", "replay", False)
+        self.assertEqual((True, (), 1), (replay.whole, replay.unread, len(replay.replies)))
+
     def test_what_is_none(self):
-        for text in ["", "1", "x read", "1 open", "1 read 1 2 3 4 5 6 7", "1 read x", "1 mount /", "1  read", "1 re%20ad"]:
+        for text in ["", "1", "x read", "1 open", "1 read 1 2 3 4 5 6 7", "1 read x", "1 mount /", "1  read", "1 re%20ad", "1 clone3",
+                     "1 openat2 /a", "1 io_uring_enter mode", "1 io_uring_enter send 1"]:  # fmt: skip
             self.assertIsNone(read_call(text), text)
 
 
