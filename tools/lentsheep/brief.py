@@ -1,7 +1,7 @@
 """The verdict on a service in one screen: `brief(view, page)` gives its lines.
 
-Root causes come first, then a table of kinds of questions, files as largest folders, one line for each other kind, blind
-folders, notes, and the partings from systemd that this unit meets.
+What is open by a way that no filter sees comes first, then root causes, a table of kinds of questions, files as largest folders, one
+line for each other kind, blind folders, notes, and the partings from systemd that this unit meets.
 """
 from __future__ import annotations
 
@@ -11,6 +11,8 @@ from .causes import State, causes, held_capabilities, state_of
 from .harm import Group, Tried, closing, first_keys, groups
 from .identity import Identity
 from .notes import ToldNote
+from .open_by import told as told_ways
+from .open_by import ways
 from .parting_sides import bears_on
 from .partings import Direction, Parting, doubted
 from .places import Exceptional, described, is_below
@@ -59,7 +61,7 @@ def brief(view: View, page: Page) -> list[str]:
     report = view.report
     lines = _wrong(view, page) + _head(view, page)
     if report.answers:
-        lines += ["", *_causes(view, page), "", *_table(view, page), "", *_files(view, page), *_names(view, page)]
+        lines += ["", *_open_by(view, page), *_causes(view, page), "", *_table(view, page), "", *_files(view, page), *_names(view, page)]
     lines += _blind(view, page) + _notes(view.notes, page) + _partings(view, page)
     if view.identity:
         lines += page.lines("made by", [view.identity.words[0], *parted(view.identity.words[1:])])
@@ -102,11 +104,21 @@ def _launch(view: View) -> str:
     return f"as {who}, with {capabilities}, no_new_privs {'on' if launch.no_new_privs else 'off'}"
 
 
+def _open_by(view: View, page: Page) -> list[str]:
+    """What is open by a way that no filter sees, and the lines that close it."""
+    lines: list[str] = []
+    for by, kinds, closed_by in told_ways(ways(view.report), view.table, view.tried):
+        text = ", ".join(kinds) + ";" * bool(closed_by)
+        lines += page.lines("" if lines else "open by", [f"{by}:", *text.split(), *_closing(closed_by)], 4)
+    return [*lines, ""] if lines else []
+
+
 def _causes(view: View, page: Page) -> list[str]:
     found = groups(causes(view.report, view.table))
     lines = _without_sandbox(view, page)
     if not found:
-        return lines or [page.line("why open", "each open answer needs one call and no privilege, or nothing")]
+        which = "each other open answer" if ways(view.report) else "each open answer"
+        return lines or [page.line("why open", f"{which} needs one call and no privilege, or nothing")]
     for group in found[:MOST_CAUSES]:
         lines += _cause(group, view, page, "" if lines else "why open")
     if rest := found[MOST_CAUSES:]:
@@ -307,9 +319,14 @@ def _touching(parting: Parting) -> list[str]:
     """A parting with what it touches and what closes it, in parts that are not broken."""
     touched = [counted(len(parting.answers or ()), "answer")] * bool(parting.answers)
     touched += [counted(len(topmost(parting.blind)), "blind folder")] * bool(parting.blind)
-    closing = [word for at, line in enumerate(parting.closed_by) for word in ["or"] * (at > 0) + [line]]
-    text = ", ".join(touched) + ";" * bool(closing)
-    return [*_parting_name(parting).split(), *text.split()] + (["closed", "by", *closing] if closing else [])
+    text = ", ".join(touched) + ";" * bool(parting.closed_by)
+    return [*_parting_name(parting).split(), *text.split(), *_closing(parting.closed_by)]
+
+
+def _closing(lines: Sequence[str]) -> list[str]:
+    """The lines each of which closes something, in parts that are not broken; nothing where there are none."""
+    found = [word for at, line in enumerate(lines) for word in ["or"] * (at > 0) + [line]]
+    return ["closed", "by", *found] if found else []
 
 
 def _parting_name(parting: Parting) -> str:

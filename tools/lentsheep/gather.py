@@ -11,6 +11,8 @@ from .host import read_host
 from .identity import identity
 from .modes import FILE, read_modes, with_modes
 from .notes import told_notes
+from .open_by import candidates as way_lines
+from .open_by import ways
 from .partings import Judged, Parting, files_in_force, partings
 from .profiles import profile_named
 from .program import Program, Run
@@ -31,7 +33,8 @@ def view_of(program: Program, run: Run, most: int | None = None) -> View:
     said, modes = Said(files), read_modes(program.read(FILE))
     is_protected = has_sandbox(said)
     report = with_modes(report, modes, said)
-    lines = [line for group in groups(causes(report, table))[:most] for line in candidates(group, report)]
+    lines = [line for way in ways(report) for line in way_lines(way, table)]
+    lines += [line for group in groups(causes(report, table))[:most] for line in candidates(group, report)]
     lines += [] if is_protected else FIRST_KEYS
     known = tried(program, unit, files, lines) if report.answers and run.status == 0 else None
     notes, passed = told_notes(report.notes, files), passed_over(files)
