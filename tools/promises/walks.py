@@ -28,7 +28,7 @@ class Walker:
     ):
         self.chance, self.abis, self.rows, self.places, self.numbers = chance, abis, list(rows), list(places), numbers
         # a call of another ABI ends the process where the native one alone may call
-        self.native = 0.97 if is_native else 0.7
+        self.native = 1 if is_native else 0.7
         # names of calls that end a process, and how many processes a walk may have so far
         self.ending: set[str] = set()
         self.processes = 1

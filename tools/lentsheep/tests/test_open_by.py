@@ -18,6 +18,7 @@ from lentsheep.report import parse
 from lentsheep.screen import Page
 from lentsheep.table import Table
 from lentsheep.terminal import Paint
+from test_profile import table_of
 
 BUILT = os.environ.get("LENTSHEEP_PROGRAM") or str(TOP / "crates/sandbox_cli/out/sandbox_cli")
 TABLE = Table(
@@ -125,7 +126,7 @@ class Runs(unittest.TestCase):
             unit.parent.mkdir(parents=True)
             unit.write_text("\n".join(["[Service]", "ExecStart=/usr/web", "User=web", "NoNewPrivileges=yes", *lines, ""]))
             Path(folder, "site.toml").write_text(site)
-            os.symlink(TOP / "tables/x86-64/257/calls2.txt", Path(folder, "calls.txt"))
+            Path(folder, "calls.txt").write_text(table_of(257))
             program = Program(folder)
             view = view_of(program, program.run("judge", "web.service"), 4)
         shown = brief(view, Page(100, Paint(False)))
