@@ -164,7 +164,7 @@ def controls(place: str, chance: random.Random) -> list[str]:
         whole = Service(f"{place}/whole-{at}", [*lines, line], SITE, 8, 257)
         without = Service(f"{place}/without-{at}", lines, SITE, 8, 257)
         report, plan = whole.judged(), without.planned()
-        if not any(walks(without, report, plan, chance, 2)[0] for _ in range(4)):
+        if not any(walks(without, report, plan, chance, 2)[0] for _ in range(20)):
             missed.append(f"no walk reaches what {line} denies, over {lines}")
         for service in (whole, without):
             shutil.rmtree(service.folder)
